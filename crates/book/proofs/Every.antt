@@ -1,0 +1,273 @@
+-- Demand 3: what holds of a fresh line and memory is kept by every event, so it holds after every list. Assumes nothing.
+use mathlib.Core.Path.{_≡_, refl, sym, ap, subst, _∙_}
+use mathlib.Core.Logic.{_≢_}
+use mathlib.Core.Bool.{Bool, true, false, _&&_, _||_, not, or-true}
+use mathlib.Core.List.{List, [], _∷_}
+use Prim.Native.Nat.{ℕ, suc, _+_, _*_, _≤_, _<_}
+use native.Mathlib.Omega.{arith}
+use lib.Dec.{T, eqb, leb}
+use lib.IntN.{ℤ, pos}
+use lib.ListN.{length, getD, set, replicate, length-set, length-replicate, getD-replicate}
+use lib.Seq.{getD-set-same, getD-set-other}
+use borrow.Author.Tests.{eqb-true, eqb-false, eq-eqb, leb-true}
+use Rattle.weight.specs.Choice.{if_then_else_}
+use Rattle.weight.proofs.Tests.{both, and-intro, if-ind, by-cases}
+use Rattle.settings.specs.Settings.{blank, recordFit, recordRanged, limitsOrdered}
+use Rattle.settings.specs.declared.Settings.{Settings}
+use Rattle.device.specs.Sorter.{sorting, waiting, sorterOff, waitsFit, sorterFit}
+use Rattle.event.specs.Setup.{setupRanged, edgeAgrees}
+use Rattle.event.specs.Event.{eventRanged, eventAgrees}
+use Rattle.event.specs.declared.Event.{Event}
+use Rattle.event.specs.declared.Event.the-variants.{Sample, Run, Stop, Emergency, Recall, Cancel, ClearCode, ClearAll, ErrorReset, NoOperation, Setup, Store}
+use Rattle.tally.specs.Tally.{hasRoom}
+use Rattle.tally.specs.Memory.{tallyAt, tallyAtFit, withTally, zeros, talliesLength}
+use Rattle.line.specs.Line.{freshLine, inHand, busy, withUndo}
+use Rattle.line.specs.Fit.{lastFit, sensorFit, errorKnown, statusFit, itemFit, undoFit, lineFit}
+use Rattle.line.specs.Effect.{bit, plain, replied}
+use Rattle.line.specs.Refusal.{settingsLength, readsRecord, readsTally, memorySound, statusWrong, runUnsafe, runOccupied, nothingToCancel, noChance, refusalOf, isRun, inputOf}
+use Rattle.line.specs.Tallying.{Out, isVerdict, untallied, tallied, passedOver, noted, recorded, cancelled}
+use Rattle.line.specs.Sample.{sampled}
+use Rattle.line.specs.Step.{accepted, refused, unlessRefused, stepOf, stored, activeOf, stepOn, settingsAfter}
+use Rattle.line.specs.declared.line.Undo.{Undo}
+use Rattle.line.specs.declared.line.Undo.the-variants.{Nothing, Kept}
+use Rattle.line.specs.declared.line.Line.{Line}
+use Rattle.line.specs.declared.effect.Effect.{Effect}
+use Rattle.line.proofs.Facts.{FitLine, fit-tells, tells-fit}
+use Rattle.line.proofs.Accepted.{Accepted, accepted-tells}
+use Rattle.book.specs.Book as book
+use Rattle.book.specs.Book.{Book, Pages, talliedBy}
+use Rattle.book.specs.Run.{Turn, World, freshWorld, answer, after, runFrom, run, bookOf}
+use Rattle.book.specs.Boxes.{detectedBy, outcomeOf, sumOver, detectedIn, judgedIn, outcomesIn, isJudged, inHandAfter}
+use Rattle.book.specs.Claim.{refusalIn, talliedIn, Stands, Claim}
+use Rattle.book.proofs.Level as level
+use Rattle.book.proofs.Level.{Level}
+use Rattle.book.proofs.Ticks.{hand}
+use Rattle.book.proofs.Sheets.{chanceOf, beside, Back, Sheets, Goes, zero-sheets}
+use Rattle.book.proofs.Events.{Given, accepted-goes}
+
+-- ---- the settings records stay fit
+
+pub record Records (ss : List Settings) : Type 0 where
+  pub count : length ss ≡ settingsLength
+  pub fit : (k : ℕ) → k ≤ 99 → recordFit (getD ss k blank) ≡ true
+
+stored-fit : (ss : List Settings) (e : Event) → Records ss → eventRanged e ≡ true → eventAgrees e ≡ true → Records (stored ss e)
+unfolding eventRanged eventAgrees
+stored-fit ss (Sample s) r a b = r
+stored-fit ss Run r a b = r
+stored-fit ss Stop r a b = r
+stored-fit ss Emergency r a b = r
+stored-fit ss (Recall c) r a b = r
+stored-fit ss Cancel r a b = r
+stored-fit ss (ClearCode c) r a b = r
+stored-fit ss ClearAll r a b = r
+stored-fit ss ErrorReset r a b = r
+stored-fit ss NoOperation r a b = r
+stored-fit ss (Setup s) r a b = r
+stored-fit ss (Store c s) r a b =
+    let ranged = both (leb c 99) (recordRanged s) a in
+    let low = leb-true c 99 (ranged .0) in
+    let ok : recordFit s ≡ true = and-intro (ranged .1) b in
+    record {
+      count = length-set ss c s ∙ r .count;
+      fit = λ k h. by-cases (eqb k c)
+          (λ y. rw (eqb-true k c y, getD-set-same ss c s blank (omega (arith, r .count))) ok)
+          (λ n. rw (getD-set-other ss c k s blank (eqb-false k c n)) (r .fit k h));
+    }
+
+-- ---- one event on a world
+
+pub record Holds (w : World) : Type 0 where
+  pub pages : Pages
+  pub book : bookOf (w .history) ≡ beside (w .line) pages
+  pub given : Given (w .line) (w .tallies) pages
+  pub records : Records (w .settings)
+  pub balance : detectedIn (w .history)
+      ≡ judgedIn (w .history) + 2 * outcomesIn 7 (w .history) + outcomesIn 9 (w .history) + outcomesIn 10 (w .history) + inHandAfter (w .history)
+  pub item : bit (inHand (w .line .item)) ≡ inHandAfter (w .history)
+
+refused-goes : (l : Line) (ts : List ℤ) (f : Pages) (e : Event) (n : ℕ) → Given l ts f → Goes l f e (refused l ts n)
+unfolding book.noted talliedBy
+refused-goes l ts f e n g =
+    record {
+      pages = f; book = refl; line = g .fit; sheets = g .sheets; back = g .back; tallied = refl; boxes = level.still (hand l);
+    }
+
+answer-goes : (w : World) (e : Event) (h : Holds w) → Goes (w .line) (h .pages) e (answer w e)
+unfolding stepOf
+answer-goes w e h =
+    let l = w .line in
+    let ts = w .tallies in
+    let a = activeOf l (w .settings) in
+    let n = refusalOf l (length (w .settings)) a ts e in
+    if-ind (Goes l (h .pages) e) (eqb n 0) _ _
+    (λ z. accepted-goes l a ts (h .pages) e (length (w .settings)) (h .given) (accepted-tells l (length (w .settings)) a ts e (eqb-true n 0 z)))
+    (λ _. refused-goes l ts (h .pages) e n (h .given))
+
+records-after : (w : World) (e : Event) → Holds w → Records (settingsAfter (w .line) (w .settings) (w .tallies) e)
+records-after w e h =
+    let l = w .line in
+    let a = activeOf l (w .settings) in
+    let n = refusalOf l (length (w .settings)) a (w .tallies) e in
+    if-ind Records (eqb n 0) _ _
+    (λ z. let y = accepted-tells l (length (w .settings)) a (w .tallies) e (eqb-true n 0 z) in stored-fit (w .settings) e (h .records) (y .ranged) (y .agrees))
+    (λ _. h .records)
+
+-- the boxes, with one turn more
+in-hand-more : (t : Turn) (h : List Turn) (a z : ℕ) → a ≡ inHandAfter h → Level a (detectedBy (t .reply)) (outcomeOf (t .reply)) z → z ≡ inHandAfter (t ∷ h)
+unfolding inHandAfter
+in-hand-more t h a z e v = rw (← e) (v .last)
+
+balance-more : (t : Turn) (h : List Turn) (a z : ℕ) → a ≡ inHandAfter h → z ≡ inHandAfter (t ∷ h) → Level a (detectedBy (t .reply)) (outcomeOf (t .reply)) z
+    → detectedIn h ≡ judgedIn h + 2 * outcomesIn 7 h + outcomesIn 9 h + outcomesIn 10 h + inHandAfter h
+    → detectedIn (t ∷ h) ≡ judgedIn (t ∷ h) + 2 * outcomesIn 7 (t ∷ h) + outcomesIn 9 (t ∷ h) + outcomesIn 10 (t ∷ h) + inHandAfter (t ∷ h)
+unfolding sumOver
+balance-more t h a z e g v b = omega (arith, v .flow, b, e, g)
+
+holds-after : (w : World) (e : Event) → Holds w → Holds (after w e)
+unfolding bookOf
+holds-after w e h =
+    let g = answer-goes w e h in
+    let t : Turn = record { event = e; reply = answer w e .reply } in
+    let i = in-hand-more t (w .history) (hand (w .line)) (hand (answer w e .line)) (h .item) (g .boxes) in
+    record {
+      pages = g .pages;
+      book = rw (h .book) (g .book);
+      given = record { fit = g .line; sheets = g .sheets; back = g .back };
+      records = records-after w e h;
+      balance = balance-more t (w .history) (hand (w .line)) (hand (answer w e .line)) (h .item) i (g .boxes) (h .balance);
+      item = i;
+    }
+
+-- ---- every list
+
+fresh-fit : FitLine freshLine
+unfolding freshLine setupRanged edgeAgrees lastFit sensorFit statusFit errorKnown busy sorting waiting sorterOff waitsFit sorterFit itemFit undoFit
+fresh-fit =
+    record { code = refl; setup = refl; last = refl; sensor = refl; status = refl; sorter = refl; delay = refl; item = refl; undo = refl }
+
+blank-fit : recordFit blank ≡ true
+unfolding recordRanged limitsOrdered
+blank-fit = refl
+
+fresh-records : Records (replicate settingsLength blank)
+fresh-records =
+    record {
+      count = length-replicate settingsLength blank;
+      fit = λ k h. rw (getD-replicate settingsLength k blank blank (omega arith)) blank-fit;
+    }
+
+fresh-holds : Holds freshWorld
+unfolding bookOf sumOver inHandAfter freshLine
+fresh-holds =
+    record {
+      pages = λ _. []; book = refl;
+      given = record { fit = fresh-fit; sheets = zero-sheets; back = tt };
+      records = fresh-records; balance = refl; item = refl;
+    }
+
+holds-from : (w : World) (es : List Event) → Holds w → Holds (runFrom w es)
+unfolding runFrom
+holds-from w [] h = h
+holds-from w (e ∷ es) h = holds-from (after w e) es (holds-after w e h)
+
+holds : (es : List Event) → Holds (run es)
+unfolding run
+holds es = holds-from freshWorld es fresh-holds
+
+-- ---- what is claimed
+
+sound-always : (w : World) (e : Event) → Holds w → memorySound (w .line) (length (w .settings)) (activeOf (w .line) (w .settings)) (w .tallies) e ≡ true
+unfolding memorySound
+sound-always w e h =
+    let l = w .line in
+    let low = leb-true (l .code) 99 (h .given .fit .code) in
+    and-intro (and-intro (and-intro (and-intro
+    (eq-eqb _ _ (h .records .count)) (eq-eqb _ _ (h .given .sheets .len))) (tells-fit l (h .given .fit)))
+    (rw (h .records .fit (l .code) low) (or-true (not (readsRecord e)))))
+    (rw (h .given .sheets .fit (l .code) low) (or-true (not (readsTally e))))
+
+-- of the rules other than 8 none has that number
+not-eight : (l : Line) (count : ℕ) (a : Settings) (ts : List ℤ) (e : Event) → memorySound l count a ts e ≡ true → refusalOf l count a ts e ≢ 8
+unfolding refusalOf
+not-eight l count a ts e h =
+    rw h
+    (if-ind Other (not (eventRanged e)) _ _ (λ _ x. omega arith)
+    (λ _. if-ind Other (statusWrong l e) _ _ (λ _ x. omega arith)
+    (λ _. if-ind Other (not (eventAgrees e)) _ _ (λ _ x. omega arith)
+    (λ _. if-ind Other (runUnsafe l e) _ _ (λ _ x. omega arith)
+    (λ _. if-ind Other (runOccupied l a e) _ _ (λ _ x. omega arith)
+    (λ _. if-ind Other (nothingToCancel l e) 7 0 (λ _ x. omega arith) (λ _ x. omega arith)))))))
+  where
+    Other : ℕ → Type 0
+    Other n = n ≢ 8
+
+-- an accepted event's reply is no refusal
+abbrev NoRefusal : Out → Type 0
+NoRefusal o = refusalIn (o .reply) ≡ 0
+
+untallied-done : (x : Effect) (ts : List ℤ) → NoRefusal (untallied x ts)
+unfolding replied
+untallied-done x ts = refl
+
+recorded-done : (x : Effect) (ts : List ℤ) → NoRefusal (recorded x ts)
+unfolding recorded noted replied
+recorded-done x ts =
+    if-ind NoRefusal (isVerdict (x .outcome)) _ _
+    (λ _. if-ind NoRefusal (hasRoom (tallyAt ts (x .line .code))) (tallied x ts (tallyAt ts (x .line .code))) (passedOver x ts) (λ _. refl) (λ _. refl))
+    (λ _. refl)
+
+cancelled-done : (l : Line) (ts : List ℤ) (u : Undo) → NoRefusal (cancelled l ts u)
+unfolding cancelled
+cancelled-done l ts Nothing = untallied-done (plain l) ts
+cancelled-done l ts (Kept t) = untallied-done (plain (withUndo l Nothing)) (withTally ts (l .code) t)
+
+accepted-done : (l : Line) (a : Settings) (ts : List ℤ) (e : Event) → NoRefusal (accepted l a ts e)
+unfolding accepted replied
+accepted-done l a ts (Sample s) = recorded-done (sampled l a s) ts
+accepted-done l a ts Run = refl
+accepted-done l a ts Stop = refl
+accepted-done l a ts Emergency = refl
+accepted-done l a ts (Recall c) = refl
+accepted-done l a ts Cancel = cancelled-done l ts (l .undo)
+accepted-done l a ts (ClearCode c) = refl
+accepted-done l a ts ClearAll = refl
+accepted-done l a ts ErrorReset = refl
+accepted-done l a ts NoOperation = refl
+accepted-done l a ts (Setup s) = refl
+accepted-done l a ts (Store c s) = refl
+
+-- the reply of an event has the refusal's number
+refusal-shown : (l : Line) (count : ℕ) (a : Settings) (ts : List ℤ) (e : Event) → refusalIn (stepOf l count a ts e .reply) ≡ refusalOf l count a ts e
+unfolding stepOf
+refusal-shown l count a ts e =
+    let n = refusalOf l count a ts e in
+    if-ind (λ (o : Out). refusalIn (o .reply) ≡ n) (eqb n 0) _ _
+    (λ z. accepted-done l a ts e ∙ sym (eqb-true n 0 z))
+    (λ _. refl)
+
+cancel-answer : (l : Line) (count : ℕ) (a : Settings) (ts : List ℤ) → memorySound l count a ts Cancel ≡ true → refusalOf l count a ts Cancel ≡ (if chanceOf (l .undo) then 0 else 7)
+unfolding refusalOf eventRanged statusWrong eventAgrees runUnsafe runOccupied nothingToCancel
+cancel-answer l count a ts h = rw h (by (l .undo))
+  where
+    by : (u : Undo) → _≡_ {A = ℕ} (if noChance u then 7 else 0) (if chanceOf u then 0 else 7)
+    by Nothing = refl
+    by (Kept t) = refl
+
+stands : (w : World) → Holds w → Stands w
+stands w h =
+    let l = w .line in
+    let n = length (w .settings) in
+    let a = activeOf l (w .settings) in
+    let ts = w .tallies in
+    record {
+      tallies = λ code low. rw (h .book) (h .given .sheets .tallies code low);
+      balance = h .balance;
+      item = h .item;
+      tallied = λ e. rw (h .book) (answer-goes w e h .tallied);
+      cancelled = refusal-shown l n a ts Cancel ∙ rw (h .book) (cancel-answer l n a ts (sound-always w Cancel h));
+      sound = λ e z. not-eight l n a ts e (sound-always w e h) (sym (refusal-shown l n a ts e) ∙ z);
+    }
+
+pub claim : Claim
+claim es = stands (run es) (holds es)

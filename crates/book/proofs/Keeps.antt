@@ -1,0 +1,164 @@
+-- Parts of a line are changed and it stays fit. Assumes nothing.
+use mathlib.Core.Path.{_≡_, refl, sym, _∙_}
+use mathlib.Core.Bool.{Bool, true, false, _&&_, _||_, not}
+use Prim.Native.Nat.{ℕ, _≤_}
+use native.Mathlib.Omega.{arith}
+use lib.Dec.{leb, eqb}
+use lib.IntN.{ℤ}
+use borrow.Author.Tests.{leb-true, le-leb, eqb-true}
+use Rattle.weight.proofs.Tests.{both, and-intro, if-ind}
+use Rattle.mask.specs.Bits.{marked}
+use Rattle.device.specs.Sorter.{sorterFit, sorting, waiting, sorterOff, sorterTicked, queued}
+use Rattle.device.specs.Foreign.{foreignTicked, flagUsed}
+use Rattle.device.specs.declared.sorter.Sorter.{Sorter}
+use Rattle.device.specs.declared.foreign.Foreign.{Foreign}
+use Rattle.device.proofs.Keeps.{Settled, settled-keeps, ticked-fit, queued-fit, off-fit, ticked-delay}
+use Rattle.event.specs.Setup.{setupFit}
+use Rattle.event.specs.declared.Sample.{Sample}
+use Rattle.event.proofs.Facts.{timers, InRange}
+use Rattle.line.specs.Line.{stopped, running, paused, emergency, noError, busy, withStatus, withSorter, withForeign, withItem, withSensed}
+use Rattle.line.specs.Fit.{lastFit, sensorFit, errorKnown, statusFit, itemFit}
+use Rattle.line.specs.Effect.{halted}
+use Rattle.line.specs.Verdict.{errorFor, sortedFor, stoppedFor}
+use Rattle.line.specs.Sample.{step1, step4, step5}
+use Rattle.line.specs.declared.line.Line.{Line}
+use Rattle.line.specs.declared.item.Item.{Item}
+use Rattle.line.specs.declared.item.Item.the-variants.{None}
+use Rattle.line.proofs.Facts.{FitLine}
+
+-- ---- the status
+
+pub running-status : (l : Line) → l .status ≡ running → l .error ≡ noError → statusFit l ≡ true
+unfolding statusFit errorKnown
+running-status l s e = simp (s, e)
+
+pub paused-status : (l : Line) → l .status ≡ paused → errorKnown (l .error) ≡ true → statusFit l ≡ true
+unfolding statusFit
+paused-status l s e = simp (s, e)
+
+-- a line that is not paused has no error
+pub error-none : (l : Line) → statusFit l ≡ true → l .status ≡ running → l .error ≡ noError
+unfolding statusFit
+error-none l h s =
+    let a = both _ (not ((eqb (l .status) stopped || eqb (l .status) emergency) && busy l)) h in
+    let b = both (leb (l .status) 3 && errorKnown (l .error)) (eqb (l .status) paused || eqb (l .error) noError) (a .0) in
+    eqb-true (l .error) noError (rw s at (b .1))
+
+-- ---- a running line
+
+pub record Running (l : Line) : Type 0 where
+  pub fit : FitLine l
+  pub status : l .status ≡ running
+  pub error : l .error ≡ noError
+
+pub with-item : (l : Line) (i : Item) → Running l → itemFit i (l .setup) ≡ true → Running (withItem l i)
+with-item l i r h =
+    record {
+      fit = record {
+        code = r .fit .code; setup = r .fit .setup; last = r .fit .last; sensor = r .fit .sensor;
+        status = running-status (withItem l i) (r .status) (r .error);
+        sorter = r .fit .sorter; delay = r .fit .delay; item = h; undo = r .fit .undo;
+      };
+      status = r .status; error = r .error;
+    }
+
+with-sorter : (l : Line) (s : Sorter) → Running l → sorterFit s ≡ true → Running (withSorter l s)
+with-sorter l s r h =
+    record {
+      fit = record {
+        code = r .fit .code; setup = r .fit .setup; last = r .fit .last; sensor = r .fit .sensor;
+        status = running-status (withSorter l s) (r .status) (r .error);
+        sorter = h; delay = r .fit .delay; item = r .fit .item; undo = r .fit .undo;
+      };
+      status = r .status; error = r .error;
+    }
+
+pub with-foreign : (l : Line) (f : Foreign) → Running l → leb (f .delay) 9999 ≡ true → Running (withForeign l f)
+with-foreign l f r h =
+    record {
+      fit = record {
+        code = r .fit .code; setup = r .fit .setup; last = r .fit .last; sensor = r .fit .sensor;
+        status = running-status (withForeign l f) (r .status) (r .error);
+        sorter = r .fit .sorter; delay = h; item = r .fit .item; undo = r .fit .undo;
+      };
+      status = r .status; error = r .error;
+    }
+
+pub with-paused : (l : Line) (e : ℕ) → FitLine l → errorKnown e ≡ true → FitLine (withStatus l paused e)
+with-paused l e f h =
+    record {
+      code = f .code; setup = f .setup; last = f .last; sensor = f .sensor;
+      status = paused-status (withStatus l paused e) refl h;
+      sorter = f .sorter; delay = f .delay; item = f .item; undo = f .undo;
+    }
+
+-- ---- the steps that change one part
+
+pub fit-step4 : (l : Line) → Running l → Running (step4 l)
+unfolding step4
+fit-step4 l r =
+    with-sorter l (sorterTicked (l .sorter) (l .setup .to)) r
+    (ticked-fit (l .sorter) (l .setup .to) (timers (l .setup) (r .fit .setup) .to) (r .fit .sorter))
+
+pub fit-step5 : (l : Line) (rises : Bool) → Running l → Running (step5 l rises)
+unfolding step5
+fit-step5 l rises r =
+    with-foreign l (foreignTicked (l .foreign) rises (l .setup .tf)) r
+    (le-leb _ _ (ticked-delay (l .foreign) rises (l .setup .tf) (timers (l .setup) (r .fit .setup) .tf) (leb-true _ _ (r .fit .delay))))
+
+pub fit-sorted : (l : Line) (v : ℕ) → Running l → Running (sortedFor l v)
+unfolding sortedFor
+fit-sorted l v r =
+    if-ind Running (marked (l .setup .sort) v) _ _
+    (λ _. with-sorter l (queued (l .sorter) (l .setup .ts)) r
+    (queued-fit (l .sorter) (l .setup .ts) (timers (l .setup) (r .fit .setup) .ts) (r .fit .sorter)))
+    (λ _. r)
+
+error-known : (v : ℕ) → errorKnown (errorFor v) ≡ true
+unfolding errorFor errorKnown
+error-known v =
+    if-ind (λ (e : ℕ). errorKnown e ≡ true) (eqb v 7) _ _ (λ _. refl)
+    (λ _. if-ind (λ (e : ℕ). errorKnown e ≡ true) (eqb v 6) _ _ (λ _. refl)
+    (λ _. if-ind (λ (e : ℕ). errorKnown e ≡ true) (eqb v 8) 6 0 (λ _. refl) (λ _. refl)))
+
+pub fit-stopped : (l : Line) (v : ℕ) → FitLine l → FitLine (stoppedFor l v)
+unfolding stoppedFor
+fit-stopped l v f =
+    if-ind FitLine (marked (l .setup .stop) v) _ _ (λ _. with-paused l (errorFor v) f (error-known v)) (λ _. f)
+
+pub fit-step1 : (l : Line) (s : Sample) → FitLine l → InRange s → FitLine (step1 l s)
+unfolding step1 lastFit sensorFit statusFit busy
+fit-step1 l s f r =
+    let b = both (leb (l .sensor .level) 1) (leb (l .sensor .run) 9999) (f .sensor) in
+    let k = settled-keeps (l .sensor) (l .setup .tc) (s .sensor)
+            (record { level = leb-true _ _ (b .0); run = leb-true _ _ (b .1) }) (timers (l .setup) (f .setup) .tc) (r .sensor) in
+    record {
+      code = f .code; setup = f .setup;
+      last = and-intro (and-intro (r .gross) (r .safety)) (r .foreign);
+      sensor = and-intro (le-leb _ _ (k .level)) (le-leb _ _ (k .run));
+      status = f .status; sorter = f .sorter; delay = f .delay; item = f .item; undo = f .undo;
+    }
+
+-- ---- stopped and emergency
+
+halted-fit : (l : Line) (s : ℕ) → FitLine l → statusFit (halted l s) ≡ true → FitLine (halted l s)
+unfolding halted itemFit
+halted-fit l s f h =
+    record {
+      code = f .code; setup = f .setup; last = f .last; sensor = f .sensor; status = h;
+      sorter = off-fit; delay = f .delay; item = refl; undo = f .undo;
+    }
+
+stopped-status : (l : Line) → statusFit (halted l stopped) ≡ true
+unfolding halted statusFit errorKnown busy sorting waiting sorterOff
+stopped-status l = refl
+
+emergency-status : (l : Line) → statusFit (halted l emergency) ≡ true
+unfolding halted statusFit errorKnown busy sorting waiting sorterOff
+emergency-status l = refl
+
+pub fit-stop : (l : Line) → FitLine l → FitLine (halted l stopped)
+fit-stop l f = halted-fit l stopped f (stopped-status l)
+
+pub fit-emergency : (l : Line) → FitLine l → FitLine (halted l emergency)
+fit-emergency l f = halted-fit l emergency f (emergency-status l)

@@ -1,0 +1,8 @@
+pub mod Example
+pub mod Level
+pub mod Keeps
+pub mod Ticks
+pub mod Pages
+pub mod Sheets
+pub mod Events
+pub mod Every

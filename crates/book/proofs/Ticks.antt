@@ -1,0 +1,304 @@
+-- A sample and the other events on the line alone: the line stays fit and keeps its code and its chance to cancel, the boxes are
+-- level, the net is a weight. Assumes nothing.
+use mathlib.Core.Path.{_≡_, refl, sym, ap, subst, _∙_}
+use mathlib.Core.Bool.{Bool, true, false, _&&_, not}
+use mathlib.Core.Logic.{_⊎_, inl, inr, ⊎-elim}
+use Prim.Native.Nat.{ℕ, _+_}
+use native.Mathlib.Omega.{arith}
+use lib.Dec.{eqb, leb, T}
+use lib.IntN.{ℤ, pos, _-ℤ_}
+use lib.Signed.{leZ}
+use borrow.Author.Tests.{eqb-true}
+use Rattle.weight.specs.Choice.{if_then_else_}
+use Rattle.weight.specs.Weight.{isWeight}
+use Rattle.weight.proofs.Tests.{both, and-intro, if-ind}
+use Rattle.mask.specs.Bits.{marked, lowestOff}
+use Rattle.settings.specs.Settings.{recordFit}
+use Rattle.settings.specs.Grade.{gradeOf}
+use Rattle.settings.specs.declared.Settings.{Settings}
+use Rattle.settings.proofs.Facts.{net-weight}
+use Rattle.device.specs.Foreign.{flagUsed}
+use Rattle.event.specs.declared.Sample.{Sample}
+use Rattle.event.proofs.Facts.{timers, InRange}
+use Rattle.tally.specs.Tally.{isGrade}
+use Rattle.line.specs.Line.{stopped, running, paused, emergency, noError, isRunning, inHand, busy, withStatus, withForeign, withItem}
+use Rattle.line.specs.Fit.{errorKnown, itemFit}
+use Rattle.line.specs.Effect.{bit, plain, halted, halting}
+use Rattle.line.specs.Verdict.{sortedFor, stoppedFor, given, orCrash, verdictOf, judged}
+use Rattle.line.specs.Sample.{step1, step2, step3, step4, step5, step6, step7, weighed, afterWeighing, newItem, detecting, runningTick, guarded, fromStep3, sampled, foreignRises, edgeMade}
+use Rattle.line.specs.Command.{ran, stopping, alarmed}
+use Rattle.line.specs.declared.line.Line.{Line}
+use Rattle.line.specs.declared.effect.Effect.{Effect}
+use Rattle.line.specs.declared.item.Item.the-variants.{None}
+use Rattle.line.specs.declared.item.Weighed.{Weighed}
+use Rattle.line.specs.declared.item.Weighed.the-variants.{Still, Mean}
+use Rattle.line.proofs.Facts.{FitLine}
+use Rattle.book.proofs.Level as level
+use Rattle.book.proofs.Level.{Level, Judged, grade-judged, crash-judged}
+use Rattle.book.proofs.Keeps.{Running, running-status, error-none, with-item, with-foreign, with-paused, fit-step1, fit-step4, fit-step5, fit-sorted, fit-stopped, fit-stop, fit-emergency}
+use Rattle.line.proofs.Items.{Weighs, still, mean, weighing, new-fit, new-in-hand}
+
+abbrev pub hand : Line → ℕ
+hand l = bit (inHand (l .item))
+
+-- what every accepted event that gives an effect does
+pub record Went (l : Line) (e : Effect) : Type 0 where
+  pub fit : FitLine (e .line)
+  pub code : e .line .code ≡ l .code
+  pub undo : e .line .undo ≡ l .undo
+  pub boxes : Level (hand l) (e .detected) (e .outcome) (hand (e .line))
+  pub net : isWeight (e .net) ≡ true
+
+pub to-running : (l : Line) → FitLine l → isRunning l ≡ true → Running l
+to-running l f h =
+    let s : l .status ≡ running = eqb-true (l .status) running h in
+    record { fit = f; status = s; error = error-none l (f .status) s }
+
+-- ---- a verdict given
+
+pub record Gives (l : Line) (d v : ℕ) (e : Effect) : Type 0 where
+  pub fit : FitLine (e .line)
+  pub code : e .line .code ≡ l .code
+  pub undo : e .line .undo ≡ l .undo
+  pub item : e .line .item ≡ l .item
+  pub detected : e .detected ≡ d
+  pub outcome : e .outcome ≡ v
+  pub net : isWeight (e .net) ≡ true
+
+record Same (l m : Line) : Type 0 where
+  code : m .code ≡ l .code
+  undo : m .undo ≡ l .undo
+  item : m .item ≡ l .item
+
+sorted-same : (l : Line) (v : ℕ) → Same l (sortedFor l v)
+unfolding sortedFor
+sorted-same l v =
+    if-ind (Same l) (marked (l .setup .sort) v) _ _ (λ _. record { code = refl; undo = refl; item = refl }) (λ _. record { code = refl; undo = refl; item = refl })
+
+stopped-same : (l : Line) (v : ℕ) → Same l (stoppedFor l v)
+unfolding stoppedFor
+stopped-same l v =
+    if-ind (Same l) (marked (l .setup .stop) v) _ _ (λ _. record { code = refl; undo = refl; item = refl }) (λ _. record { code = refl; undo = refl; item = refl })
+
+gives : (l : Line) (d v : ℕ) (net : ℤ) → Running l → isWeight net ≡ true → Gives l d v (given l d v net)
+unfolding given
+gives l d v net r w =
+    let a = sorted-same l v in
+    let b = stopped-same (sortedFor l v) v in
+    record {
+      fit = fit-stopped (sortedFor l v) v (fit-sorted l v r .fit);
+      code = b .code ∙ a .code; undo = b .undo ∙ a .undo; item = b .item ∙ a .item;
+      detected = refl; outcome = refl;
+      net = if-ind (λ (x : ℤ). isWeight x ≡ true) (isGrade v) _ _ (λ _. w) (λ _. refl);
+    }
+
+-- ---- step 6
+
+-- nothing came of it yet
+pub record Stays (l : Line) (e : Effect) : Type 0 where
+  pub run : Running (e .line)
+  pub code : e .line .code ≡ l .code
+  pub undo : e .line .undo ≡ l .undo
+  pub same : inHand (e .line .item) ≡ inHand (l .item)
+  pub detected : e .detected ≡ 0
+  pub outcome : e .outcome ≡ 0
+  pub net : isWeight (e .net) ≡ true
+
+-- the box was judged or dismissed, and nothing is in hand
+pub record Ends (l : Line) (e : Effect) : Type 0 where
+  pub fit : FitLine (e .line)
+  pub code : e .line .code ≡ l .code
+  pub undo : e .line .undo ≡ l .undo
+  pub was : inHand (l .item) ≡ true
+  pub none : e .line .item ≡ None
+  pub detected : e .detected ≡ 0
+  pub outcome : Judged (e .outcome) ⊎ (e .outcome ≡ 9)
+  pub net : isWeight (e .net) ≡ true
+
+judged-ends : (l k : Line) (v : ℕ) (net : ℤ) → Running k → k .code ≡ l .code → k .undo ≡ l .undo → k .item ≡ None → inHand (l .item) ≡ true → Judged v → isWeight net ≡ true → Ends l (given k 0 v net)
+judged-ends l k v net r c u i w j n =
+    let g = gives k 0 v net r n in
+    record {
+      fit = g .fit; code = g .code ∙ c; undo = g .undo ∙ u; was = w; none = g .item ∙ i; detected = g .detected;
+      outcome = inl (subst Judged (sym (g .outcome)) j); net = g .net;
+    }
+
+verdict-ends : (l : Line) (a : Settings) (net : ℤ) → Running (withItem l None) → inHand (l .item) ≡ true → isWeight net ≡ true → Ends l (verdictOf (withItem l None) a net)
+unfolding verdictOf flagUsed
+verdict-ends l a net r w n =
+    let k = withItem l None in
+    if-ind (Ends l) (l .foreign .flag) _ _
+    (λ _. judged-ends l (withForeign k (flagUsed (l .foreign))) (orCrash k 6) net
+    (with-foreign k (flagUsed (l .foreign)) r (r .fit .delay)) refl refl refl w
+    (crash-judged k 6 (record { one = refl; not7 = refl; not9 = refl; not10 = refl; not0 = refl })) n)
+    (λ _. judged-ends l k (orCrash k (gradeOf a net)) net r refl refl refl w (crash-judged k (gradeOf a net) (grade-judged a net)) n)
+
+mean-ends : (l : Line) (a : Settings) (m : ℤ) → Running (withItem l None) → inHand (l .item) ≡ true → recordFit a ≡ true → isWeight m ≡ true → Ends l (judged (withItem l None) a m)
+unfolding judged
+mean-ends l a m r w f h =
+    if-ind (Ends l) (leZ m (a .nearzero)) _ _
+    (λ _. record { fit = r .fit; code = refl; undo = refl; was = w; none = refl; detected = refl; outcome = inr refl; net = refl })
+    (λ g. verdict-ends l a (m -ℤ a .tare) r w (net-weight a m f h g))
+
+after-weighing : (l : Line) (a : Settings) {w : Weighed} → Running l → recordFit a ≡ true → Weighs (l .item) (l .setup) w → Stays l (afterWeighing l a w) ⊎ Ends l (afterWeighing l a w)
+unfolding afterWeighing itemFit
+after-weighing l a r f (still j g s) =
+    inl (record { run = with-item l j r g; code = refl; undo = refl; same = s; detected = refl; outcome = refl; net = refl })
+after-weighing l a r f (mean m w h) = inr (mean-ends l a m (with-item l None r refl) w f h)
+
+six : (l : Line) (a : Settings) (gross : ℤ) → Running l → recordFit a ≡ true → isWeight gross ≡ true → Stays l (step6 l a gross) ⊎ Ends l (step6 l a gross)
+unfolding step6
+six l a gross r f g =
+    after-weighing l a r f
+    (weighing (l .item) (l .setup) gross (timers (l .setup) (r .fit .setup)) (r .fit .item) g)
+
+-- ---- step 7
+
+two-on-goes : (l : Line) (e : Effect) → Stays l e → inHand (e .line .item) ≡ true → Went l (given (withItem (e .line) None) 1 7 (pos 0))
+unfolding itemFit
+two-on-goes l e s h =
+    let g = gives (withItem (e .line) None) 1 7 (pos 0) (with-item (e .line) None (s .run) refl) refl in
+    record {
+      fit = g .fit; code = g .code ∙ s .code; undo = g .undo ∙ s .undo;
+      boxes = rw (sym (s .same) ∙ h, g .detected, g .outcome, g .item) level.two-on;
+      net = g .net;
+    }
+
+-- a new item after step 6
+begun : (l k : Line) → Running k → k .code ≡ l .code → k .undo ≡ l .undo → (d o : ℕ) (x : ℤ) → d ≡ 1 → isWeight x ≡ true → Level (hand l) 1 o 1 → Went l (record { line = withItem k (newItem (k .setup)); detected = d; outcome = o; net = x })
+begun l k r c u d o x e n v =
+    record {
+      fit = with-item k (newItem (k .setup)) r (new-fit (k .setup) (timers (k .setup) (r .fit .setup))) .fit;
+      code = c; undo = u; boxes = rw (e, new-in-hand (k .setup)) v; net = n;
+    }
+
+stays-detecting : (l : Line) (e : Effect) → Stays l e → Went l (detecting e)
+unfolding detecting
+stays-detecting l e s =
+    if-ind (Went l) (inHand (e .line .item)) _ _
+    (λ h. two-on-goes l e s h)
+    (λ h. begun l (e .line) (s .run) (s .code) (s .undo) 1 (e .outcome) (e .net) refl (s .net) (rw (sym (s .same) ∙ h, s .outcome) level.detected))
+
+ends-detecting : (l : Line) (e : Effect) → Ends l e → isRunning (e .line) ≡ true → Went l (detecting e)
+unfolding detecting
+ends-detecting l e s h =
+    rw (s .none)
+    (begun l (e .line) (to-running (e .line) (s .fit) h) (s .code) (s .undo) 1 (e .outcome) (e .net) refl (s .net)
+    (rw (s .was) (⊎-elim (λ j. level.judged-next (e .outcome) j) (λ z. rw z level.dismissed-next) (s .outcome))))
+
+stays-went : (l : Line) (e : Effect) → Stays l e → Went l e
+stays-went l e s =
+    record {
+      fit = s .run .fit; code = s .code; undo = s .undo;
+      boxes = rw (s .detected, s .outcome, s .same) (level.still (hand l)); net = s .net;
+    }
+
+ends-went : (l : Line) (e : Effect) → Ends l e → Went l e
+ends-went l e s =
+    record {
+      fit = s .fit; code = s .code; undo = s .undo;
+      boxes = rw (s .was, s .detected, s .none) (⊎-elim (λ j. level.judged (e .outcome) j) (λ z. rw z level.dismissed) (s .outcome));
+      net = s .net;
+    }
+
+seven : (l : Line) (e : Effect) (made : Bool) → Stays l e ⊎ Ends l e → Went l (step7 e made)
+unfolding step7
+seven l e made s =
+    if-ind (Went l) (isRunning (e .line) && made) _ _
+    (λ h. ⊎-elim (λ x. stays-detecting l e x) (λ x. ends-detecting l e x (both (isRunning (e .line)) made h .0)) s)
+    (λ _. ⊎-elim (λ x. stays-went l e x) (λ x. ends-went l e x) s)
+
+-- ---- a running tick, and a sample
+
+-- seen from another line with the same code, chance and item
+went-from : (k l : Line) (e : Effect) → k .code ≡ l .code → k .undo ≡ l .undo → k .item ≡ l .item → Went k e → Went l e
+went-from k l e c u i w =
+    record { fit = w .fit; code = w .code ∙ c; undo = w .undo ∙ u; boxes = rw (← i) (w .boxes); net = w .net }
+
+tick-goes : (l : Line) (a : Settings) (gross : ℤ) (rises made : Bool) → Running l → recordFit a ≡ true → isWeight gross ≡ true → Went l (runningTick l a gross rises made)
+unfolding runningTick step4 step5
+tick-goes l a gross rises made r f g =
+    let k = step5 (step4 l) rises in
+    went-from k l _ refl refl refl
+    (seven k (step6 k a gross) made (six k a gross (fit-step5 (step4 l) rises (fit-step4 l r)) f g))
+
+pub plain-goes : (l k : Line) → FitLine k → k .code ≡ l .code → k .undo ≡ l .undo → k .item ≡ l .item → Went l (plain k)
+plain-goes l k f c u i = record { fit = f; code = c; undo = u; boxes = rw i (level.still (hand l)); net = refl }
+
+halting-goes : (l : Line) (s : ℕ) → FitLine (halted l s) → Went l (halting l s)
+unfolding halting halted
+halting-goes l s f =
+    record { fit = f; code = refl; undo = refl; boxes = all (inHand (l .item)); net = refl }
+  where
+    all : (b : Bool) → Level (bit b) 0 (if b then 10 else 0) 0
+    all true = level.abandoned
+    all false = level.still 0
+
+guarded-goes : (l : Line) (a : Settings) (gross : ℤ) (rises made : Bool) → FitLine l → recordFit a ≡ true → isWeight gross ≡ true → Went l (guarded l a gross rises made)
+unfolding guarded
+guarded-goes l a gross rises made r f g =
+    if-ind (Went l) (isRunning l) _ _
+    (λ h. tick-goes l a gross rises made (to-running l r h) f g)
+    (λ _. plain-goes l l r refl refl refl)
+
+step3-goes : (l : Line) (a : Settings) (gross : ℤ) (rises made : Bool) → FitLine l → recordFit a ≡ true → isWeight gross ≡ true → Went l (guarded (step3 l) a gross rises made)
+unfolding step3 errorKnown
+step3-goes l a gross rises made r f g =
+    if-ind (λ (k : Line). Went l (guarded k a gross rises made)) (eqb (lowestOff (l .setup .need) (l .last .safety)) 0) _ _
+    (λ _. guarded-goes l a gross rises made r f g)
+    (λ _. let k = withStatus l paused 1 in
+    went-from k l _ refl refl refl (guarded-goes k a gross rises made (with-paused l 1 r refl) f g))
+
+from-step3 : (l : Line) (e : Effect) (a : Settings) (gross : ℤ) (rises made : Bool) → (isRunning (e .line) ≡ true → e ≡ plain l) → FitLine l → Went l e → recordFit a ≡ true → isWeight gross ≡ true → Went l (fromStep3 e a gross rises made)
+unfolding fromStep3
+from-step3 l e a gross rises made p r w f g =
+    if-ind (Went l) (isRunning (e .line)) _ _
+    (λ h. rw (p h) (step3-goes l a gross rises made r f g))
+    (λ _. w)
+
+-- step 2 leaves a line running only where it changes nothing
+step2-goes : (l : Line) (level : ℕ) → FitLine l → Went l (step2 l level) × (isRunning (step2 l level .line) ≡ true → step2 l level ≡ plain l)
+unfolding step2 halting halted
+step2-goes l level f =
+    if-ind Holds (eqb level 1) _ _
+    (λ _. (halting-goes l emergency (fit-emergency l f), λ h. absurd (subst T (sym h) tt)))
+    (λ _. if-ind Holds (eqb (l .status) emergency) _ _
+    (λ _. (halting-goes l stopped (fit-stop l f), λ h. absurd (subst T (sym h) tt)))
+    (λ _. (plain-goes l l f refl refl refl, λ _. refl)))
+  where
+    Holds : Effect → Type 0
+    Holds e = Went l e × (isRunning (e .line) ≡ true → e ≡ plain l)
+
+pub sample-goes : (l : Line) (a : Settings) (s : Sample) → FitLine l → recordFit a ≡ true → InRange s → Went l (sampled l a s)
+unfolding sampled step1
+sample-goes l a s f r g =
+    let k = step1 l s in
+    let two = step2-goes k (s .emergency) (fit-step1 l s f g) in
+    went-from k l _ refl refl refl
+    (from-step3 k (step2 k (s .emergency)) a (s .gross) (foreignRises l s) _ (two .1) (fit-step1 l s f g) (two .0) r (g .gross))
+
+-- ---- run, stop, emergency
+
+pub run-goes : (l : Line) → FitLine l → Went l (ran l)
+unfolding ran
+run-goes l f =
+    plain-goes l (withStatus l running noError)
+    (record {
+      code = f .code; setup = f .setup; last = f .last; sensor = f .sensor;
+      status = running-status (withStatus l running noError) refl refl;
+      sorter = f .sorter; delay = f .delay; item = f .item; undo = f .undo;
+    })
+    refl refl refl
+
+pub stop-goes : (l : Line) → FitLine l → Went l (stopping l)
+unfolding stopping errorKnown
+stop-goes l f =
+    if-ind (Went l) (isRunning l && busy l) _ _
+    (λ _. plain-goes l (withStatus l paused 0) (with-paused l 0 f refl) refl refl refl)
+    (λ _. if-ind (Went l) (eqb (l .status) stopped) _ _
+    (λ _. plain-goes l l f refl refl refl)
+    (λ _. halting-goes l stopped (fit-stop l f)))
+
+pub emergency-goes : (l : Line) → FitLine l → Went l (alarmed l)
+unfolding alarmed
+emergency-goes l f = halting-goes l emergency (fit-emergency l f)

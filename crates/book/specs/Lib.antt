@@ -1,0 +1,5 @@
+pub mod Book
+pub mod Page
+pub mod Run
+pub mod Boxes
+pub mod Claim

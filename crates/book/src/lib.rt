@@ -1,0 +1,1 @@
+// The claim of demand 3, over every list of events.

@@ -1,0 +1,3 @@
+pub mod Sensor
+pub mod Sorter
+pub mod Foreign

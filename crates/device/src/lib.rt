@@ -1,0 +1,9 @@
+// The devices along the belt: the sensor that sees boxes, the sorter, and the foreign detector. Each is a struct by
+// value; a tick gives the next one.
+mod foreign;
+mod sensor;
+mod sorter;
+
+pub use foreign::Foreign;
+pub use sensor::Sensor;
+pub use sorter::Sorter;

@@ -1,0 +1,64 @@
+-- What a fit setup and a sample in range tell. Assumes nothing.
+use mathlib.Core.Path.{_≡_}
+use mathlib.Core.Bool.{Bool, true, _&&_}
+use Prim.Native.Nat.{_≤_, _%_}
+use lib.Dec.{leb, eqb}
+use lib.IntN.{natAbs}
+use borrow.Author.Tests.{leb-true}
+use Rattle.weight.specs.Choice.{within}
+use Rattle.weight.specs.Weight.{isWeight}
+use Rattle.weight.proofs.Tests.{both}
+use Rattle.event.specs.Setup.{setupRanged, edgeAgrees, setupFit}
+use Rattle.event.specs.Sample.{sampleRanged}
+use Rattle.event.specs.declared.Setup.{Setup}
+use Rattle.event.specs.declared.Sample.{Sample}
+
+pub record Timers (s : Setup) : Type 0 where
+  pub tc : s .tc ≤ 9999
+  pub tw : s .tw ≤ 9999
+  pub tf : s .tf ≤ 9999
+  pub some : 1 ≤ s .ta
+  pub ta : s .ta ≤ 9999
+  pub ts : s .ts ≤ 9999
+  pub to : s .to ≤ 9999
+
+-- the tests before those of ta, ts and to
+abbrev delays : Setup → Bool
+delays s = within 1 2 (s .mode) && within 1 2 (s .edge) && leb (s .tc) 9999 && leb (s .tw) 9999 && leb (s .tf) 9999
+
+pub timers : (s : Setup) → setupFit s ≡ true → Timers s
+unfolding setupRanged
+timers s h =
+    let r = both (setupRanged s) (edgeAgrees s) h in
+    let a = both _ (eqb (s .sort % 2) 0) (r .0) in
+    let b = both _ (leb (s .need) 255) (a .0) in
+    let c = both _ (leb (s .stop) 255) (b .0) in
+    let d = both _ (leb (s .sort) 255) (c .0) in
+    let to = both (delays s && within 1 9999 (s .ta) && within 1 9999 (s .ts)) (within 1 9999 (s .to)) (d .0) in
+    let ts = both (delays s && within 1 9999 (s .ta)) (within 1 9999 (s .ts)) (to .0) in
+    let ta = both (delays s) (within 1 9999 (s .ta)) (ts .0) in
+    let tf = both _ (leb (s .tf) 9999) (ta .0) in
+    let tw = both _ (leb (s .tw) 9999) (tf .0) in
+    let tc = both (within 1 2 (s .mode) && within 1 2 (s .edge)) (leb (s .tc) 9999) (tw .0) in
+    let ta-both = both (leb 1 (s .ta)) (leb (s .ta) 9999) (ta .1) in
+    record {
+      tc = leb-true _ _ (tc .1); tw = leb-true _ _ (tw .1); tf = leb-true _ _ (tf .1);
+      some = leb-true _ _ (ta-both .0); ta = leb-true _ _ (ta-both .1);
+      ts = leb-true _ _ (both (leb 1 (s .ts)) (leb (s .ts) 9999) (ts .1) .1);
+      to = leb-true _ _ (both (leb 1 (s .to)) (leb (s .to) 9999) (to .1) .1);
+    }
+
+pub record InRange (s : Sample) : Type 0 where
+  pub sensor : s .sensor ≤ 1
+  pub foreign : leb (s .foreign) 1 ≡ true
+  pub safety : leb (s .safety) 255 ≡ true
+  pub gross : isWeight (s .gross) ≡ true
+
+pub in-range : (s : Sample) → sampleRanged s ≡ true → InRange s
+unfolding sampleRanged
+in-range s h =
+    let a = both _ (isWeight (s .gross)) h in
+    let b = both _ (leb (s .safety) 255) (a .0) in
+    let c = both _ (leb (s .foreign) 1) (b .0) in
+    let d = both _ (leb (s .emergency) 1) (c .0) in
+    record { sensor = leb-true _ _ (d .0); foreign = c .1; safety = b .1; gross = a .1 }

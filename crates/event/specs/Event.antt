@@ -1,0 +1,43 @@
+-- 01, "Events" and refusals 2 and 4: whether an event's fields are in range, and whether they agree with each other.
+use Prim.Native.Nat.{ℕ}
+use mathlib.Core.Bool.{Bool, true, _&&_}
+use lib.Dec.{leb}
+use Rattle.settings.specs.Settings.{recordRanged, limitsOrdered}
+use Rattle.event.specs.Setup.{setupRanged, edgeAgrees}
+use Rattle.event.specs.Sample.{sampleRanged}
+use Rattle.event.specs.declared.Event.{Event}
+use Rattle.event.specs.declared.Event.the-variants.{Sample, Run, Stop, Emergency, Recall, Cancel, ClearCode, ClearAll, ErrorReset, NoOperation, Setup, Store}
+
+-- "Codes are 0 to 99"
+abbrev pub isCode : ℕ → Bool
+isCode c = leb c 99
+
+-- no field is out of range
+unfoldable pub eventRanged : Event → Bool
+eventRanged (Sample s) = sampleRanged s
+eventRanged Run = true
+eventRanged Stop = true
+eventRanged Emergency = true
+eventRanged (Recall c) = isCode c
+eventRanged Cancel = true
+eventRanged (ClearCode c) = isCode c
+eventRanged ClearAll = true
+eventRanged ErrorReset = true
+eventRanged NoOperation = true
+eventRanged (Setup s) = setupRanged s
+eventRanged (Store c s) = isCode c && recordRanged s
+
+-- "limits out of order; mode 2 with edge 1" is not the case
+unfoldable pub eventAgrees : Event → Bool
+eventAgrees (Sample s) = true
+eventAgrees Run = true
+eventAgrees Stop = true
+eventAgrees Emergency = true
+eventAgrees (Recall c) = true
+eventAgrees Cancel = true
+eventAgrees (ClearCode c) = true
+eventAgrees ClearAll = true
+eventAgrees ErrorReset = true
+eventAgrees NoOperation = true
+eventAgrees (Setup s) = edgeAgrees s
+eventAgrees (Store c s) = limitsOrdered s

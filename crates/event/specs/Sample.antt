@@ -1,0 +1,9 @@
+-- 01, "Sample": "sensor, emergency, foreign (0 or 1), safety (0 to 255; input k is bit k-1), gross".
+use mathlib.Core.Bool.{Bool, _&&_}
+use lib.Dec.{leb}
+use Rattle.weight.specs.Weight.{isWeight}
+use Rattle.event.specs.declared.Sample.{Sample}
+
+unfoldable pub sampleRanged : Sample → Bool
+sampleRanged s =
+    leb (s .sensor) 1 && leb (s .emergency) 1 && leb (s .foreign) 1 && leb (s .safety) 255 && isWeight (s .gross)

@@ -1,0 +1,23 @@
+-- 01, "Setup": the fields' ranges, and what mode 2 needs.
+use Prim.Native.Nat.{_%_}
+use mathlib.Core.Bool.{Bool, _&&_, not}
+use lib.Dec.{leb, eqb}
+use Rattle.weight.specs.Choice.{within}
+use Rattle.event.specs.declared.Setup.{Setup}
+
+-- "mode 1 or 2; edge 1 (off to on) or 2 (on to off); tc, tw, tf 0 to 9,999; ta, ts, to 1 to 9,999; masks sort, stop, need 0 to 255; sort has bit 0 clear (else 2)"
+unfoldable pub setupRanged : Setup → Bool
+setupRanged s =
+    within 1 2 (s .mode) && within 1 2 (s .edge)
+    && leb (s .tc) 9999 && leb (s .tw) 9999 && leb (s .tf) 9999
+    && within 1 9999 (s .ta) && within 1 9999 (s .ts) && within 1 9999 (s .to)
+    && leb (s .sort) 255 && leb (s .stop) 255 && leb (s .need) 255
+    && eqb (s .sort % 2) 0
+
+-- "Mode 2 needs edge 2"
+unfoldable pub edgeAgrees : Setup → Bool
+edgeAgrees s = not (eqb (s .mode) 2 && eqb (s .edge) 1)
+
+-- a setup as the event takes it
+abbrev pub setupFit : Setup → Bool
+setupFit s = setupRanged s && edgeAgrees s

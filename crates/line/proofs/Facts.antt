@@ -1,0 +1,41 @@
+-- What the fitness of a line tells, part by part, and back. Assumes nothing.
+use mathlib.Core.Path.{_≡_, refl, sym}
+use mathlib.Core.Bool.{Bool, true, false, _&&_, _||_, not}
+use lib.Dec.{eqb, leb}
+use Rattle.weight.proofs.Tests.{both, and-intro}
+use Rattle.device.specs.Sorter.{sorterFit}
+use Rattle.event.specs.Setup.{setupFit}
+use Rattle.event.specs.Event.{isCode}
+use Rattle.line.specs.Fit.{lastFit, sensorFit, statusFit, itemFit, undoFit, lineFit}
+use Rattle.line.specs.declared.line.Line.{Line}
+
+pub record FitLine (l : Line) : Type 0 where
+  pub code : isCode (l .code) ≡ true
+  pub setup : setupFit (l .setup) ≡ true
+  pub last : lastFit (l .last) ≡ true
+  pub sensor : sensorFit (l .sensor) ≡ true
+  pub status : statusFit l ≡ true
+  pub sorter : sorterFit (l .sorter) ≡ true
+  pub delay : leb (l .foreign .delay) 9999 ≡ true
+  pub item : itemFit (l .item) (l .setup) ≡ true
+  pub undo : undoFit (l .undo) ≡ true
+
+pub fit-tells : (l : Line) → lineFit l ≡ true → FitLine l
+unfolding lineFit
+fit-tells l h =
+    let a = both _ (undoFit (l .undo)) h in
+    let b = both _ (itemFit (l .item) (l .setup)) (a .0) in
+    let c = both _ (leb (l .foreign .delay) 9999) (b .0) in
+    let d = both _ (sorterFit (l .sorter)) (c .0) in
+    let e = both _ (statusFit l) (d .0) in
+    let f = both _ (sensorFit (l .sensor)) (e .0) in
+    let g = both _ (lastFit (l .last)) (f .0) in
+    let k = both _ (setupFit (l .setup)) (g .0) in
+    record {
+      code = k .0; setup = k .1; last = g .1; sensor = f .1; status = e .1; sorter = d .1; delay = c .1; item = b .1; undo = a .1;
+    }
+
+pub tells-fit : (l : Line) → FitLine l → lineFit l ≡ true
+unfolding lineFit
+tells-fit l f =
+    rw (f .code, f .setup, f .last, f .sensor, f .status, f .sorter, f .delay, f .item, f .undo)

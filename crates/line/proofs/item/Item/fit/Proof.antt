@@ -1,0 +1,80 @@
+-- `fit` tests the ticks left before the sum, since 999,999 times the ticks averaged fits only then. Assumes nothing.
+use borrow.Author.Needs.{needs}
+use borrow.Author.Tests.{not-true, not-false, leb-true}
+use mathlib.Core.Path.{_≡_, sym, _∙_}
+use mathlib.Core.Bool.{true}
+use Prim.Native.Nat.{_≤_}
+use native.Mathlib.Omega.{arith}
+use lib.Dec.{leb}
+use Rattle.weight.specs.Choice.{within}
+use Rattle.weight.proofs.Tests.{both}
+use Rattle.weight.proofs.Signed.{back}
+use Rattle.event.proofs.Facts.{timers}
+use Rattle.line.specs.Fit.{itemFit}
+use Rattle.line.proofs.item.Item.fit.Statement.{statement}
+use Rattle.line.proofs.item.Item.fit.Tie as tie
+
+enum-told : tie.Need-enum-told
+enum-told c = search needs
+
+enum-known-self : tie.Need-enum-known-self
+enum-known-self c = search needs
+
+enum-known-self-2 : tie.Need-enum-known-self-2
+enum-known-self-2 c = search needs
+
+returns : tie.Need-returns
+unfolding itemFit
+returns c =
+    let k = c .before .before .before .self2 .given .0 .0 in
+    let ta = c .before .before .before .before .before .args .setup .ta in
+    simp (c .before .before .before .self2 .given .1, not-true (within 1 ta k) (c .if1 .taken))
+
+size-requires : tie.Need-size-requires
+size-requires c κs = search needs
+
+-- the ticks left are at most ta
+most : (c : tie.After-struct-known3) → c .before .before .before .before .before .self2 .given .0 .0 ≤ c .before .before .before .before .before .before .before .args .setup .ta
+most c =
+    let k = c .before .before .before .before .before .self2 .given .0 .0 in
+    let ta = c .before .before .before .before .before .before .before .args .setup .ta in
+    leb-true k ta (both (leb 1 k) (leb k ta) (not-false (within 1 ta k) (c .before .before .if1 .left)) .1)
+
+sub-result : tie.Need-sub-result
+sub-result c = most c
+
+mul-result : tie.Need-mul-result
+mul-result c =
+    let s = c .before .before .before .before .before .before .before in
+    record { fits = omega (arith, timers (s .args .setup) (s .pre)) }
+
+returns-2 : tie.Need-returns-2
+unfolding itemFit
+returns-2 c = simp (c .enum-told .given .1)
+
+returns-3 : tie.Need-returns-3
+unfolding itemFit
+returns-3 c = simp (c .before .before .self .given .1)
+
+returns-4 : tie.Need-returns-4
+unfolding itemFit
+returns-4 c =
+    let v = c .before .before .before .before .before .self2 .given in
+    let ta = c .before .before .before .before .before .before .before .args .setup .ta in
+    rw (c .before .size .ensures, back (v .0 .1 .0) (c .before .before .before .before .known-told2 .given .1 .0 .1))
+    (simp (v .1, not-false (within 1 ta (v .0 .0)) (c .before .before .if1 .left)))
+
+pub fit-spec : {M : Type 1} → statement M
+fit-spec =
+    tie.close
+    (tie.spec
+    enum-told
+    enum-known-self
+    enum-known-self-2
+    returns
+    size-requires
+    sub-result
+    mul-result
+    returns-2
+    returns-3
+    returns-4)

@@ -1,0 +1,22 @@
+-- 01, "Events": run, stop and emergency, as accepted.
+use mathlib.Core.Bool.{_&&_}
+use lib.Dec.{eqb}
+use Rattle.weight.specs.Choice.{if_then_else_}
+use Rattle.line.specs.Line.{stopped, running, paused, emergency, noError, isRunning, busy, withStatus}
+use Rattle.line.specs.Effect.{plain, halting}
+use Rattle.line.specs.declared.line.Line.{Line}
+use Rattle.line.specs.declared.effect.Effect.{Effect}
+
+-- "Run from stopped or paused sets running, error none"
+unfoldable pub ran : Line → Effect
+ran l = plain (withStatus l running noError)
+
+-- "Stop: running and busy gives paused, error 0; running and not busy, or paused, gives stopped; stopped stays."
+unfoldable pub stopping : Line → Effect
+stopping l =
+    if isRunning l && busy l then plain (withStatus l paused 0)
+    else (if eqb (l .status) stopped then plain l else halting l stopped)
+
+-- "Emergency: accepted in any status, gives status 3."
+unfoldable pub alarmed : Line → Effect
+alarmed l = halting l emergency

@@ -1,0 +1,46 @@
+-- What an event does to the line and to a box, before a verdict is tallied; and the reply's fields.
+use Prim.Native.Nat.{ℕ}
+use mathlib.Core.Bool.{Bool, true, false}
+use lib.IntN.{ℤ, pos}
+use Rattle.weight.specs.Choice.{if_then_else_}
+use Rattle.device.specs.Sorter.{sorterOff}
+use Rattle.line.specs.Line.{noError, inHand, busy, conveyor, sorterOn}
+use Rattle.line.specs.declared.item.Item.the-variants.{None}
+use Rattle.line.specs.declared.line.Line.{Line}
+use Rattle.line.specs.declared.effect.Effect.{Effect}
+use Rattle.line.specs.declared.reply.Done.{Done}
+use Rattle.line.specs.declared.reply.Reply.{Reply}
+use Rattle.line.specs.declared.reply.Reply.the-variants.{Refused, Done as done}
+
+-- an effect on the line alone
+abbrev pub plain : Line → Effect
+plain l = record { line = l; detected = 0; outcome = 0; net = pos 0 }
+
+-- outcomes 9 and 10 of a box without a verdict
+abbrev pub dismissed : Line → Effect
+dismissed l = record { line = l; detected = 0; outcome = 9; net = pos 0 }
+
+-- "Entering status 0 or 3 abandons an item in hand, empties the queue, puts the sorter off and the error to none. A foreign signal is kept."
+unfoldable pub halted : Line → ℕ → Line
+halted l s =
+    record {
+      status = s; error = noError; code = l .code; setup = l .setup; sensor = l .sensor;
+      last = l .last; foreign = l .foreign; item = None; sorter = sorterOff; undo = l .undo;
+    }
+
+unfoldable pub halting : Line → ℕ → Effect
+halting l s =
+    record { line = halted l s; detected = 0; outcome = if inHand (l .item) then 10 else 0; net = pos 0 }
+
+abbrev pub bit : Bool → ℕ
+bit true = 1
+bit false = 0
+
+-- "Status, busy, conveyor, sorter and error are those after the event. Detected and tallied are 1 if this event did so."
+unfoldable pub replied : Effect → ℕ → Reply
+replied e tallied =
+    done
+    (record {
+      status = e .line .status; busy = bit (busy (e .line)); conveyor = bit (conveyor (e .line)); sorter = bit (sorterOn (e .line));
+      detected = e .detected; outcome = e .outcome; net = e .net; tallied = tallied; error = e .line .error;
+    })

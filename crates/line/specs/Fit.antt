@@ -1,0 +1,56 @@
+-- 01, "A line is fit if": every call tests it, and no event of a list from a fresh line ever finds it unfit.
+use Prim.Native.Nat.{ℕ, _-_, _*_}
+use mathlib.Core.Bool.{Bool, true, false, _&&_, _||_, not}
+use lib.Dec.{eqb, leb}
+use lib.IntN.{ℤ, natAbs}
+use Rattle.weight.specs.Choice.{if_then_else_, within}
+use Rattle.weight.specs.Weight.{isWeight}
+use Rattle.device.specs.Sorter.{sorterFit}
+use Rattle.device.specs.declared.sensor.Sensor.{Sensor}
+use Rattle.event.specs.Setup.{setupFit}
+use Rattle.event.specs.Event.{isCode}
+use Rattle.event.specs.declared.Setup.{Setup}
+use Rattle.tally.specs.Tally.{tallyFit}
+use Rattle.line.specs.Line.{stopped, paused, emergency, noError, busy}
+use Rattle.line.specs.declared.item.Item.{Item}
+use Rattle.line.specs.declared.item.Item.the-variants.{None, Waiting, Averaging}
+use Rattle.line.specs.declared.line.Undo.{Undo}
+use Rattle.line.specs.declared.line.Undo.the-variants.{Nothing, Kept}
+use Rattle.line.specs.declared.line.Last.{Last}
+use Rattle.line.specs.declared.line.Line.{Line}
+
+-- "last sample .. as events take them"
+unfoldable pub lastFit : Last → Bool
+lastFit k = isWeight (k .gross) && leb (k .safety) 255 && leb (k .foreign) 1
+
+-- "levels 0 or 1", and the run of differing ticks one of the "other times 0 to 9,999"
+unfoldable pub sensorFit : Sensor → Bool
+sensorFit s = leb (s .level) 1 && leb (s .run) 9999
+
+-- "error known here": none, 0, 1, 2, 5 or 6
+unfoldable pub errorKnown : ℕ → Bool
+errorKnown e = eqb e noError || leb e 2 || eqb e 5 || eqb e 6
+
+-- "an item's ticks left from 1 to its tw or ta, |sum| ≤ 999,999 × ticks averaged"
+unfoldable pub itemFit : Item → Setup → Bool
+itemFit None s = true
+itemFit (Waiting k) s = within 1 (s .tw) k
+itemFit (Averaging k sum) s = within 1 (s .ta) k && leb (natAbs sum) (999999 * (s .ta - k))
+
+-- "a kept tally fit"
+unfoldable pub undoFit : Undo → Bool
+undoFit Nothing = true
+undoFit (Kept t) = tallyFit t
+
+-- "error none unless paused, and in status 0 or 3 nothing in hand, queued or on"
+unfoldable pub statusFit : Line → Bool
+statusFit l =
+    leb (l .status) 3 && errorKnown (l .error)
+    && (eqb (l .status) paused || eqb (l .error) noError)
+    && not ((eqb (l .status) stopped || eqb (l .status) emergency) && busy l)
+
+unfoldable pub lineFit : Line → Bool
+lineFit l =
+    isCode (l .code) && setupFit (l .setup) && lastFit (l .last) && sensorFit (l .sensor)
+    && statusFit l && sorterFit (l .sorter) && leb (l .foreign .delay) 9999
+    && itemFit (l .item) (l .setup) && undoFit (l .undo)

@@ -1,0 +1,9 @@
+pub mod Line
+pub mod Fit
+pub mod Effect
+pub mod Verdict
+pub mod Sample
+pub mod Command
+pub mod Tallying
+pub mod Refusal
+pub mod Step

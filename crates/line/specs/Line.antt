@@ -1,0 +1,130 @@
+-- 01, "Line and memory": statuses, the item in hand, busy, the fresh line; and the line with one part anew.
+use Prim.Native.Nat.{ℕ}
+use mathlib.Core.Bool.{Bool, true, false, _&&_, _||_, not}
+use lib.Dec.{eqb, ltb}
+use lib.IntN.{ℤ, pos}
+use Rattle.weight.specs.Choice.{if_then_else_}
+use Rattle.device.specs.Sorter.{sorting, sorterOff}
+use Rattle.device.specs.Foreign.{noSignal}
+use Rattle.device.specs.declared.sensor.Sensor.{Sensor}
+use Rattle.device.specs.declared.sorter.Sorter.{Sorter}
+use Rattle.device.specs.declared.foreign.Foreign.{Foreign}
+use Rattle.event.specs.declared.Setup.{Setup}
+use Rattle.line.specs.declared.item.Item.{Item}
+use Rattle.line.specs.declared.item.Item.the-variants.{None, Waiting, Averaging}
+use Rattle.line.specs.declared.line.Undo.{Undo}
+use Rattle.line.specs.declared.line.Undo.the-variants.{Nothing, Kept}
+use Rattle.line.specs.declared.line.Last.{Last}
+use Rattle.line.specs.declared.line.Line.{Line}
+
+-- "Status: 0 stopped, 1 running, 2 paused, 3 emergency"
+abbrev pub stopped : ℕ
+stopped = 0
+
+abbrev pub running : ℕ
+running = 1
+
+abbrev pub paused : ℕ
+paused = 2
+
+abbrev pub emergency : ℕ
+emergency = 3
+
+-- error none; the errors that 01 knows are 0, 1, 2, 5 and 6
+abbrev pub noError : ℕ
+noError = 255
+
+abbrev pub isRunning : Line → Bool
+isRunning l = eqb (l .status) running
+
+-- an item is in hand
+abbrev pub inHand : Item → Bool
+inHand None = false
+inHand (Waiting k) = true
+inHand (Averaging k s) = true
+
+-- "Busy: an item is in hand, the sorter queue isn't empty, or the on-time is above 0"
+unfoldable pub busy : Line → Bool
+busy l = inHand (l .item) || sorting (l .sorter)
+
+-- "Conveyor is 1 when running, in mode 2 only with nothing in hand."
+unfoldable pub conveyor : Line → Bool
+conveyor l = isRunning l && not (eqb (l .setup .mode) 2 && inHand (l .item))
+
+-- "Sorter is 1 when running with on-time above 0."
+unfoldable pub sorterOn : Line → Bool
+sorterOn l = isRunning l && ltb 0 (l .sorter .on)
+
+-- "mode 1, edge 2, tc 0, tw 72, ta 35, tf 0, ts 100, to 50, and sort, stop and need 0"
+abbrev pub freshSetup : Setup
+freshSetup =
+    record { mode = 1; edge = 2; tc = 0; tw = 72; ta = 35; tf = 0; ts = 100; to = 50; sort = 0; stop = 0; need = 0 }
+
+-- "A fresh line is stopped, on code 0, with sensor and foreign levels 0, last gross 0, no foreign signal, error none, nothing to cancel";
+-- "the last sample's safety (255 if fresh)"
+unfoldable pub freshLine : Line
+freshLine =
+    record {
+      status = stopped; error = noError; code = 0; setup = freshSetup;
+      sensor = record { level = 0; run = 0 };
+      last = record { gross = pos 0; safety = 255; foreign = 0 };
+      foreign = noSignal; item = None; sorter = sorterOff; undo = Nothing;
+    }
+
+-- ---- the line with a part anew
+
+abbrev pub withStatus : Line → ℕ → ℕ → Line
+withStatus l s e =
+    record {
+      status = s; error = e; code = l .code; setup = l .setup; sensor = l .sensor;
+      last = l .last; foreign = l .foreign; item = l .item; sorter = l .sorter; undo = l .undo;
+    }
+
+abbrev pub withCode : Line → ℕ → Line
+withCode l c =
+    record {
+      status = l .status; error = l .error; code = c; setup = l .setup; sensor = l .sensor;
+      last = l .last; foreign = l .foreign; item = l .item; sorter = l .sorter; undo = l .undo;
+    }
+
+abbrev pub withSetup : Line → Setup → Line
+withSetup l s =
+    record {
+      status = l .status; error = l .error; code = l .code; setup = s; sensor = l .sensor;
+      last = l .last; foreign = l .foreign; item = l .item; sorter = l .sorter; undo = l .undo;
+    }
+
+abbrev pub withSensed : Line → Sensor → Last → Line
+withSensed l s k =
+    record {
+      status = l .status; error = l .error; code = l .code; setup = l .setup; sensor = s;
+      last = k; foreign = l .foreign; item = l .item; sorter = l .sorter; undo = l .undo;
+    }
+
+abbrev pub withForeign : Line → Foreign → Line
+withForeign l f =
+    record {
+      status = l .status; error = l .error; code = l .code; setup = l .setup; sensor = l .sensor;
+      last = l .last; foreign = f; item = l .item; sorter = l .sorter; undo = l .undo;
+    }
+
+abbrev pub withItem : Line → Item → Line
+withItem l i =
+    record {
+      status = l .status; error = l .error; code = l .code; setup = l .setup; sensor = l .sensor;
+      last = l .last; foreign = l .foreign; item = i; sorter = l .sorter; undo = l .undo;
+    }
+
+abbrev pub withSorter : Line → Sorter → Line
+withSorter l s =
+    record {
+      status = l .status; error = l .error; code = l .code; setup = l .setup; sensor = l .sensor;
+      last = l .last; foreign = l .foreign; item = l .item; sorter = s; undo = l .undo;
+    }
+
+abbrev pub withUndo : Line → Undo → Line
+withUndo l u =
+    record {
+      status = l .status; error = l .error; code = l .code; setup = l .setup; sensor = l .sensor;
+      last = l .last; foreign = l .foreign; item = l .item; sorter = l .sorter; undo = u;
+    }

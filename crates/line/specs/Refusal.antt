@@ -1,0 +1,148 @@
+-- 01, "Refusal numbers of the manual's kind": the table, "checked in this order, first one wins".
+use Prim.Native.Nat.{ℕ}
+use mathlib.Core.Bool.{Bool, true, false, _&&_, _||_, not}
+use mathlib.Core.List.{List, [], _∷_}
+use lib.Dec.{eqb, leb}
+use lib.IntN.{ℤ}
+use lib.ListN.{length}
+use lib.Signed.{ltZ}
+use Rattle.weight.specs.Choice.{if_then_else_}
+use Rattle.mask.specs.Bits.{lowestOff}
+use Rattle.settings.specs.Settings.{recordFit}
+use Rattle.settings.specs.declared.Settings.{Settings}
+use Rattle.event.specs.Event.{eventRanged, eventAgrees}
+use Rattle.event.specs.declared.Event.{Event}
+use Rattle.event.specs.declared.Event.the-variants.{Sample, Run, Stop, Emergency, Recall, Cancel, ClearCode, ClearAll, ErrorReset, NoOperation, Setup, Store}
+use Rattle.tally.specs.Memory.{talliesLength, tallyAtFit}
+use Rattle.line.specs.Line.{stopped, running, emergency, isRunning}
+use Rattle.line.specs.Fit.{lineFit}
+use Rattle.line.specs.declared.line.Undo.{Undo}
+use Rattle.line.specs.declared.line.Undo.the-variants.{Nothing, Kept}
+use Rattle.line.specs.declared.line.Line.{Line}
+
+-- the hundred settings records
+abbrev pub settingsLength : ℕ
+settingsLength = 100
+
+-- "run and sample the active record"
+abbrev pub readsRecord : Event → Bool
+readsRecord (Sample s) = true
+readsRecord Run = true
+readsRecord Stop = false
+readsRecord Emergency = false
+readsRecord (Recall c) = false
+readsRecord Cancel = false
+readsRecord (ClearCode c) = false
+readsRecord ClearAll = false
+readsRecord ErrorReset = false
+readsRecord NoOperation = false
+readsRecord (Setup s) = false
+readsRecord (Store c s) = false
+
+-- "sample and cancel the active tally"
+abbrev pub readsTally : Event → Bool
+readsTally (Sample s) = true
+readsTally Run = false
+readsTally Stop = false
+readsTally Emergency = false
+readsTally (Recall c) = false
+readsTally Cancel = true
+readsTally (ClearCode c) = false
+readsTally ClearAll = false
+readsTally ErrorReset = false
+readsTally NoOperation = false
+readsTally (Setup s) = false
+readsTally (Store c s) = false
+
+-- no. 8 memory is not the case: "Every call checks both lengths, every event the line"; count is the number of settings records, a the active one
+unfoldable pub memorySound : Line → ℕ → Settings → List ℤ → Event → Bool
+memorySound l count a ts e =
+    eqb count settingsLength && eqb (length ts) talliesLength && lineFit l
+    && (not (readsRecord e) || recordFit a) && (not (readsTally e) || tallyAtFit ts (l .code))
+
+-- no. 3 status: "run while running or in emergency; stop in emergency; setup unless stopped; store while running"
+unfoldable pub statusWrong : Line → Event → Bool
+statusWrong l (Sample s) = false
+statusWrong l Run = isRunning l || eqb (l .status) emergency
+statusWrong l Stop = eqb (l .status) emergency
+statusWrong l Emergency = false
+statusWrong l (Recall c) = false
+statusWrong l Cancel = false
+statusWrong l (ClearCode c) = false
+statusWrong l ClearAll = false
+statusWrong l ErrorReset = false
+statusWrong l NoOperation = false
+statusWrong l (Setup s) = not (eqb (l .status) stopped)
+statusWrong l (Store c s) = isRunning l
+
+-- the lowest required input that is off in the last sample
+abbrev pub inputOff : Line → ℕ
+inputOff l = lowestOff (l .setup .need) (l .last .safety)
+
+abbrev pub isRun : Event → Bool
+isRun (Sample s) = false
+isRun Run = true
+isRun Stop = false
+isRun Emergency = false
+isRun (Recall c) = false
+isRun Cancel = false
+isRun (ClearCode c) = false
+isRun ClearAll = false
+isRun ErrorReset = false
+isRun NoOperation = false
+isRun (Setup s) = false
+isRun (Store c s) = false
+
+-- no. 5 safety: "run with a bit of need 0 in the last sample's safety"
+unfoldable pub runUnsafe : Line → Event → Bool
+runUnsafe l e = isRun e && not (eqb (inputOff l) 0)
+
+-- no. 6 occupied: "run from stopped, last gross above nearzero"
+unfoldable pub runOccupied : Line → Settings → Event → Bool
+runOccupied l a e = isRun e && eqb (l .status) stopped && ltZ (a .nearzero) (l .last .gross)
+
+abbrev pub noChance : Undo → Bool
+noChance Nothing = true
+noChance (Kept t) = false
+
+-- no. 7 nothing: "cancel without its premise"
+unfoldable pub nothingToCancel : Line → Event → Bool
+nothingToCancel l (Sample s) = false
+nothingToCancel l Run = false
+nothingToCancel l Stop = false
+nothingToCancel l Emergency = false
+nothingToCancel l (Recall c) = false
+nothingToCancel l Cancel = noChance (l .undo)
+nothingToCancel l (ClearCode c) = false
+nothingToCancel l ClearAll = false
+nothingToCancel l ErrorReset = false
+nothingToCancel l NoOperation = false
+nothingToCancel l (Setup s) = false
+nothingToCancel l (Store c s) = false
+
+-- a line of the table
+pub record Rule : Type 0 where
+  pub number : ℕ
+  pub holds : Bool
+
+-- the number of the first rule that holds, 0 if none does
+abbrev pub firstHolding : List Rule → ℕ
+firstHolding [] = 0
+firstHolding (r ∷ rs) = if r .holds then r .number else firstHolding rs
+
+-- the refusal of an event (1, form, is the text's), 0 if it is accepted
+unfoldable pub refusalOf : Line → ℕ → Settings → List ℤ → Event → ℕ
+refusalOf l count a ts e =
+    firstHolding
+    (record { number = 8; holds = not (memorySound l count a ts e) }
+    ∷ record { number = 2; holds = not (eventRanged e) }
+    ∷ record { number = 3; holds = statusWrong l e }
+    ∷ record { number = 4; holds = not (eventAgrees e) }
+    ∷ record { number = 5; holds = runUnsafe l e }
+    ∷ record { number = 6; holds = runOccupied l a e }
+    ∷ record { number = 7; holds = nothingToCancel l e }
+    ∷ [])
+
+-- "input is the number of the lowest required input that is off (0 but for 5)"
+unfoldable pub inputOf : Line → ℕ → ℕ
+inputOf l number = if eqb number 5 then inputOff l else 0

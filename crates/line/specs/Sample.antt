@@ -1,0 +1,103 @@
+-- 01, "Sample": the seven steps in order.
+use Prim.Native.Nat.{ℕ, _-_}
+use mathlib.Core.Bool.{Bool, _&&_}
+use lib.Dec.{eqb, ltb}
+use lib.IntN.{ℤ, pos, _+ℤ_}
+use Rattle.weight.specs.Choice.{if_then_else_}
+use Rattle.weight.specs.Mean.{rounded}
+use Rattle.mask.specs.Bits.{lowestOff}
+use Rattle.settings.specs.declared.Settings.{Settings}
+use Rattle.device.specs.Sensor.{settled}
+use Rattle.device.specs.Sorter.{sorterTicked}
+use Rattle.device.specs.Foreign.{foreignTicked}
+use Rattle.event.specs.declared.Setup.{Setup}
+use Rattle.event.specs.declared.Sample.{Sample}
+use Rattle.line.specs.Line.{stopped, running, paused, emergency, isRunning, inHand, withStatus, withSensed, withForeign, withItem, withSorter}
+use Rattle.line.specs.Effect.{plain, halting}
+use Rattle.line.specs.Verdict.{given, judged}
+use Rattle.line.specs.declared.item.Item.{Item}
+use Rattle.line.specs.declared.item.Item.the-variants.{None, Waiting, Averaging}
+use Rattle.line.specs.declared.item.Weighed.{Weighed}
+use Rattle.line.specs.declared.item.Weighed.the-variants.{Still, Mean}
+use Rattle.line.specs.declared.line.Line.{Line}
+use Rattle.line.specs.declared.effect.Effect.{Effect}
+
+-- 1. "Gross, safety and foreign level are kept as the last. The settled sensor level .., running or not"
+unfoldable pub step1 : Line → Sample → Line
+step1 l s =
+    withSensed l (settled (l .sensor) (l .setup .tc) (s .sensor))
+    (record { gross = s .gross; safety = s .safety; foreign = s .foreign })
+
+-- the settled level "made the chosen edge in step 1": edge 1 is off to on, edge 2 on to off
+unfoldable pub edgeMade : ℕ → ℕ → ℕ → Bool
+edgeMade edge before after =
+    if eqb edge 1 then eqb before 0 && eqb after 1 else eqb before 1 && eqb after 0
+
+-- "A foreign change 0 to 1 against the sample before"
+unfoldable pub foreignRises : Line → Sample → Bool
+foreignRises l s = eqb (l .last .foreign) 0 && eqb (s .foreign) 1
+
+-- 2. "Emergency 1: status 3. Emergency 0 in status 3: stopped."
+unfoldable pub step2 : Line → ℕ → Effect
+step2 l level =
+    if eqb level 1 then halting l emergency
+    else (if eqb (l .status) emergency then halting l stopped else plain l)
+
+-- 3. "If a bit set in need is 0 in safety: paused, error 1"
+unfoldable pub step3 : Line → Line
+step3 l = if eqb (lowestOff (l .setup .need) (l .last .safety)) 0 then l else withStatus l paused 1
+
+-- 4. the sorter's on-time and waits
+unfoldable pub step4 : Line → Line
+step4 l = withSorter l (sorterTicked (l .sorter) (l .setup .to))
+
+-- 5. the foreign delay and flag
+unfoldable pub step5 : Line → Bool → Line
+step5 l rises = withForeign l (foreignTicked (l .foreign) rises (l .setup .tf))
+
+-- "An item detected at running tick d is averaged over ticks d+tw+1 to d+tw+ta. On the last, m = sum / ta"
+unfoldable pub weighed : Item → ℕ → ℤ → Weighed
+weighed None ta gross = Still None
+weighed (Waiting k) ta gross = Still (if ltb 1 k then Waiting (k - 1) else Averaging ta (pos 0))
+weighed (Averaging k sum) ta gross =
+    if ltb 1 k then Still (Averaging (k - 1) (sum +ℤ gross)) else Mean (rounded (sum +ℤ gross) ta)
+
+unfoldable pub afterWeighing : Line → Settings → Weighed → Effect
+afterWeighing l a (Still i) = plain (withItem l i)
+afterWeighing l a (Mean m) = judged (withItem l None) a m
+
+-- 6. the item in hand is weighed, and judged on its last tick
+unfoldable pub step6 : Line → Settings → ℤ → Effect
+step6 l a gross = afterWeighing l a (weighed (l .item) (l .setup .ta) gross)
+
+-- an item as it is detected
+unfoldable pub newItem : Setup → Item
+newItem s = if eqb (s .tw) 0 then Averaging (s .ta) (pos 0) else Waiting (s .tw)
+
+-- "detected. With an item in hand, both become one two-on verdict and nothing is in hand."
+unfoldable pub detecting : Effect → Effect
+detecting e =
+    if inHand (e .line .item) then given (withItem (e .line) None) 1 7 (pos 0)
+    else record { line = withItem (e .line) (newItem (e .line .setup)); detected = 1; outcome = e .outcome; net = e .net }
+
+-- 7. "If still running and the settled level made the chosen edge in step 1"
+unfoldable pub step7 : Effect → Bool → Effect
+step7 e made = if isRunning (e .line) && made then detecting e else e
+
+-- "Else it is a running tick": steps 4 to 7
+unfoldable pub runningTick : Line → Settings → ℤ → Bool → Bool → Effect
+runningTick l a gross rises made = step7 (step6 (step5 (step4 l) rises) a gross) made
+
+-- step 3, and a running tick if it did not end the sample
+unfoldable pub guarded : Line → Settings → ℤ → Bool → Bool → Effect
+guarded l a gross rises made = if isRunning l then runningTick l a gross rises made else plain l
+
+-- "If not running, the sample ends."
+unfoldable pub fromStep3 : Effect → Settings → ℤ → Bool → Bool → Effect
+fromStep3 e a gross rises made =
+    if isRunning (e .line) then guarded (step3 (e .line)) a gross rises made else e
+
+unfoldable pub sampled : Line → Settings → Sample → Effect
+sampled l a s =
+    fromStep3 (step2 (step1 l s) (s .emergency)) a (s .gross) (foreignRises l s)
+    (edgeMade (l .setup .edge) (l .sensor .level) (step1 l s .sensor .level))

@@ -1,0 +1,51 @@
+-- 01, step 6 and the paragraphs "Grade" and "A verdict with its sort bit": the verdict due and what it does.
+-- Verdicts: 1 LoLo, 2 Lo, 3 OK, 4 Hi, 5 HiHi, 6 foreign, 7 two-on, 8 crash.
+use Prim.Native.Nat.{ℕ}
+use mathlib.Core.Bool.{Bool, _&&_}
+use lib.Dec.{eqb}
+use lib.IntN.{ℤ, pos, _-ℤ_}
+use lib.Signed.{leZ}
+use Rattle.weight.specs.Choice.{if_then_else_}
+use Rattle.mask.specs.Bits.{marked}
+use Rattle.settings.specs.Grade.{gradeOf}
+use Rattle.settings.specs.declared.Settings.{Settings}
+use Rattle.device.specs.Sorter.{full, queued}
+use Rattle.device.specs.Foreign.{flagUsed}
+use Rattle.tally.specs.Tally.{isGrade}
+use Rattle.line.specs.Line.{paused, withStatus, withForeign, withSorter}
+use Rattle.line.specs.Effect.{dismissed}
+use Rattle.line.specs.declared.line.Line.{Line}
+use Rattle.line.specs.declared.effect.Effect.{Effect}
+
+-- "A verdict with its sort bit is queued with wait ts if fewer than 8 wait."
+unfoldable pub sortedFor : Line → ℕ → Line
+sortedFor l v = if marked (l .setup .sort) v then withSorter l (queued (l .sorter) (l .setup .ts)) else l
+
+-- "error 2 for two-on, 5 foreign, 6 crash, 0 a grade"
+unfoldable pub errorFor : ℕ → ℕ
+errorFor v = if eqb v 7 then 2 else (if eqb v 6 then 5 else (if eqb v 8 then 6 else 0))
+
+-- "With its stop bit the line pauses"
+unfoldable pub stoppedFor : Line → ℕ → Line
+stoppedFor l v = if marked (l .setup .stop) v then withStatus l paused (errorFor v) else l
+
+-- a verdict given; "net is 0 unless 1 to 5"
+unfoldable pub given : Line → ℕ → ℕ → ℤ → Effect
+given l detected v net =
+    record {
+      line = stoppedFor (sortedFor l v) v; detected = detected; outcome = v; net = if isGrade v then net else pos 0;
+    }
+
+-- "If its sort bit is set and the queue holds 8, the verdict is crash."
+unfoldable pub orCrash : Line → ℕ → ℕ
+orCrash l v = if marked (l .setup .sort) v && full (l .sorter) then 8 else v
+
+-- "the verdict due is foreign if the flag is set (flag used up), else the grade"
+unfoldable pub verdictOf : Line → Settings → ℤ → Effect
+verdictOf l a net =
+    if l .foreign .flag then given (withForeign l (flagUsed (l .foreign))) 0 (orCrash l 6) net
+    else given l 0 (orCrash l (gradeOf a net)) net
+
+-- "If m ≤ nearzero: dismissed. Else net = m - tare"
+unfoldable pub judged : Line → Settings → ℤ → Effect
+judged l a m = if leZ m (a .nearzero) then dismissed l else verdictOf l a (m -ℤ a .tare)

@@ -1,0 +1,74 @@
+// Whether a line is fit: tested before every event, so that no caller is trusted.
+ghost use mathlib.Core.Path.{_≡_};
+ghost use Rattle.line.specs.Fit.{lastFit, sensorFit, errorKnown, undoFit, statusFit, lineFit};
+use crate::line::{Last, Line, Undo};
+use device::Sensor;
+use event::is_code;
+use weight::is_weight;
+
+fn error_known(error: u64) -> bool
+    ensures { λ r. ⌜ r ≡ errorKnown error ⌝ }
+{
+    (error == Line::NO_ERROR) | (error <= 2) | (error == 5) | (error == 6)
+}
+
+fn sensor_fit(sensor: Sensor) -> bool
+    ensures { λ r. ⌜ r ≡ sensorFit sensor ⌝ }
+{
+    (sensor.level <= 1) & (sensor.run <= 9999)
+}
+
+impl Last {
+    fn fit(self) -> bool
+        ensures { λ r. ⌜ r ≡ lastFit self ⌝ }
+    {
+        is_weight(self.gross) & (self.safety <= 255) & (self.foreign <= 1)
+    }
+}
+
+impl Undo {
+    fn fit(self) -> bool
+        ensures { λ r. ⌜ r ≡ undoFit self ⌝ }
+    {
+        match self {
+            Undo::Nothing => true,
+            Undo::Kept(t) => t.fit(),
+        }
+    }
+}
+
+impl Line {
+    // Error none unless paused; stopped or in emergency nothing is in hand, queued or on.
+    fn status_fit(self) -> bool
+        ensures { λ r. ⌜ r ≡ statusFit self ⌝ }
+    {
+        let halted = (self.status == Line::STOPPED) | (self.status == Line::EMERGENCY);
+        (self.status <= 3)
+            & error_known(self.error)
+            & ((self.status == Line::PAUSED) | (self.error == Line::NO_ERROR))
+            & !(halted & self.busy())
+    }
+
+    // The setup is tested first: the bounds of an item rest on it.
+    pub(crate) fn fit(self) -> bool
+        ensures { λ r. ⌜ r ≡ lineFit self ⌝ }
+    {
+        let setup = self.setup;
+        if !setup.fit() {
+            return false;
+        }
+        let last = self.last;
+        let sensor = self.sensor;
+        let sorter = self.sorter;
+        let item = self.item;
+        let undo = self.undo;
+        is_code(self.code)
+            & last.fit()
+            & sensor_fit(sensor)
+            & self.status_fit()
+            & sorter.fit()
+            & (self.foreign.delay <= 9999)
+            & item.fit(setup)
+            & undo.fit()
+    }
+}

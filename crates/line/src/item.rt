@@ -1,0 +1,89 @@
+// The item in hand.
+ghost use mathlib.Core.Path.{_≡_};
+ghost use mathlib.Core.Bool.{true};
+ghost use Rattle.weight.specs.Weight.{isWeight};
+ghost use Rattle.event.specs.Setup.{setupFit};
+ghost use Rattle.line.specs.Line.{inHand};
+ghost use Rattle.line.specs.Fit.{itemFit};
+ghost use Rattle.line.specs.Sample.{weighed, newItem};
+use event::Setup;
+use weight::{Figure, mean_of, size};
+
+// None, waiting with ticks left, or averaging with ticks left and a sum.
+pub enum Item {
+    None,
+    Waiting(u64),
+    Averaging(u64, i64),
+}
+
+// What a running tick makes of the item in hand: an item still, or the rounded mean.
+pub enum Weighed {
+    Still(Item),
+    Mean(i64),
+}
+
+// An item as it is detected.
+pub(crate) fn new_item(setup: Setup) -> Item
+    ensures { λ r. ⌜ r ≡ newItem setup ⌝ }
+{
+    if setup.tw == 0 {
+        return Item::Averaging(setup.ta, 0);
+    }
+    Item::Waiting(setup.tw)
+}
+
+impl Item {
+    pub(crate) fn in_hand(self) -> bool
+        ensures { λ r. ⌜ r ≡ inHand self ⌝ }
+    {
+        match self {
+            Item::None => false,
+            Item::Waiting(_) => true,
+            Item::Averaging(_, _) => true,
+        }
+    }
+
+    // Ticks left from 1 to tw or ta, and a sum that so many ticks can have.
+    pub(crate) fn fit(self, setup: Setup) -> bool
+        requires { ⌜ setupFit setup ≡ true ⌝ }
+        ensures { λ r. ⌜ r ≡ itemFit self setup ⌝ }
+    {
+        match self {
+            Item::None => true,
+            Item::Waiting(k) => (1 <= k) & (k <= setup.tw),
+            Item::Averaging(k, sum) => {
+                if !((1 <= k) & (k <= setup.ta)) {
+                    return false;
+                }
+                size(sum) <= 999999 * (setup.ta - k)
+            }
+        }
+    }
+
+    // One running tick: the wait falls, or the gross is added; on the last tick the mean is taken.
+    pub(crate) fn weighed(self, setup: Setup, gross: i64) -> Weighed
+        requires { ⌜ (setupFit setup ≡ true) × (itemFit self setup ≡ true) × (isWeight gross ≡ true) ⌝ }
+        ensures { λ r. ⌜ r ≡ weighed self (setup .ta) gross ⌝ }
+    {
+        match self {
+            Item::None => Weighed::Still(Item::None),
+            Item::Waiting(k) => {
+                if 1 < k {
+                    return Weighed::Still(Item::Waiting(k - 1));
+                }
+                Weighed::Still(Item::Averaging(setup.ta, 0))
+            }
+            Item::Averaging(k, sum) => {
+                let total = sum + gross;
+                if 1 < k {
+                    return Weighed::Still(Item::Averaging(k - 1, total));
+                }
+                let mean = mean_of(total, setup.ta);
+                match mean {
+                    Figure::Of(m) => Weighed::Mean(m),
+                    Figure::None => Weighed::Still(Item::None),
+                }
+            }
+        }
+    }
+}

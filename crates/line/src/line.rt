@@ -1,0 +1,203 @@
+// The line's record. An event takes it and gives back the next one.
+ghost use mathlib.Core.Path.{_≡_};
+ghost use Rattle.line.specs.Line.{busy, conveyor, sorterOn, freshSetup, freshLine, withStatus, withCode, withSetup, withSensed, withForeign, withItem, withSorter, withUndo};
+use crate::item::Item;
+use device::{Foreign, Sensor, Sorter};
+use event::Setup;
+use tally::Tally;
+
+// What the last sample said.
+pub struct Last {
+    pub gross: i64,
+    pub safety: u64,
+    pub foreign: u64,
+}
+
+// What a cancel puts back: nothing, or the active code's tally as before the last verdict.
+pub enum Undo {
+    Nothing,
+    Kept(Tally),
+}
+
+pub struct Line {
+    pub status: u64,
+    pub error: u64,
+    pub code: u64,
+    pub setup: Setup,
+    pub sensor: Sensor,
+    pub last: Last,
+    pub foreign: Foreign,
+    pub item: Item,
+    pub sorter: Sorter,
+    pub undo: Undo,
+}
+
+impl Line {
+    pub const STOPPED: u64 = 0;
+    pub const RUNNING: u64 = 1;
+    pub const PAUSED: u64 = 2;
+    pub const EMERGENCY: u64 = 3;
+    // error none
+    pub const NO_ERROR: u64 = 255;
+
+    // verdicts that a code's tally takes, and waits that the queue takes
+    pub const TALLY_LIMIT: u64 = 999_999;
+    pub const QUEUE_LIMIT: u64 = 8;
+
+    // timers of a fresh line, in ticks of 10 ms
+    pub const TC: u64 = 0;
+    pub const TW: u64 = 72;
+    pub const TA: u64 = 35;
+    pub const TF: u64 = 0;
+    pub const TS: u64 = 100;
+    pub const TO: u64 = 50;
+
+    fn fresh_setup() -> Setup
+        ensures { λ r. ⌜ r ≡ freshSetup ⌝ }
+    {
+        Setup {
+            mode: 1,
+            edge: 2,
+            tc: Line::TC,
+            tw: Line::TW,
+            ta: Line::TA,
+            tf: Line::TF,
+            ts: Line::TS,
+            to: Line::TO,
+            sort: 0,
+            stop: 0,
+            need: 0,
+        }
+    }
+
+    pub fn fresh() -> Line
+        ensures { λ r. ⌜ r ≡ freshLine ⌝ }
+    {
+        Line {
+            status: Line::STOPPED,
+            error: Line::NO_ERROR,
+            code: 0,
+            setup: Line::fresh_setup(),
+            sensor: Sensor { level: 0, run: 0 },
+            last: Last {
+                gross: 0,
+                safety: 255,
+                foreign: 0,
+            },
+            foreign: Foreign {
+                delay: 0,
+                flag: false,
+            },
+            item: Item::None,
+            sorter: Sorter::off(),
+            undo: Undo::Nothing,
+        }
+    }
+
+    pub(crate) fn is_running(self) -> bool {
+        self.status == Line::RUNNING
+    }
+
+    // An item is in hand, the queue isn't empty, or the sorter is on.
+    pub(crate) fn busy(self) -> bool
+        ensures { λ r. ⌜ r ≡ busy self ⌝ }
+    {
+        let item = self.item;
+        let sorter = self.sorter;
+        item.in_hand() | sorter.sorting()
+    }
+
+    pub(crate) fn conveyor(self) -> bool
+        ensures { λ r. ⌜ r ≡ conveyor self ⌝ }
+    {
+        let item = self.item;
+        (self.status == Line::RUNNING) & !((self.setup.mode == 2) & item.in_hand())
+    }
+
+    pub(crate) fn sorter_on(self) -> bool
+        ensures { λ r. ⌜ r ≡ sorterOn self ⌝ }
+    {
+        (self.status == Line::RUNNING) & (0 < self.sorter.on)
+    }
+
+    pub(crate) fn with_status(mut self, status: u64, error: u64) -> Line
+        ensures { λ r. ⌜ r ≡ withStatus self status error ⌝ }
+    {
+        self.status = status;
+        self.error = error;
+        self
+    }
+
+    pub(crate) fn with_code(mut self, code: u64) -> Line
+        ensures { λ r. ⌜ r ≡ withCode self code ⌝ }
+    {
+        self.code = code;
+        self
+    }
+
+    pub(crate) fn with_setup(mut self, setup: Setup) -> Line
+        ensures { λ r. ⌜ r ≡ withSetup self setup ⌝ }
+    {
+        self.setup = setup;
+        self
+    }
+
+    pub(crate) fn with_sensed(mut self, sensor: Sensor, last: Last) -> Line
+        ensures { λ r. ⌜ r ≡ withSensed self sensor last ⌝ }
+    {
+        self.sensor = sensor;
+        self.last = last;
+        self
+    }
+
+    pub(crate) fn with_foreign(mut self, foreign: Foreign) -> Line
+        ensures { λ r. ⌜ r ≡ withForeign self foreign ⌝ }
+    {
+        self.foreign = foreign;
+        self
+    }
+
+    pub(crate) fn with_sorter(mut self, sorter: Sorter) -> Line
+        ensures { λ r. ⌜ r ≡ withSorter self sorter ⌝ }
+    {
+        self.sorter = sorter;
+        self
+    }
+
+    // A field that is an enum is not stored to: the record is written anew.
+    pub(crate) fn with_item(self, item: Item) -> Line
+        ensures { λ r. ⌜ r ≡ withItem self item ⌝ }
+    {
+        let undo = self.undo;
+        self.with_item_and_undo(item, undo)
+    }
+
+    pub(crate) fn with_undo(self, undo: Undo) -> Line
+        ensures { λ r. ⌜ r ≡ withUndo self undo ⌝ }
+    {
+        let item = self.item;
+        self.with_item_and_undo(item, undo)
+    }
+
+    fn with_item_and_undo(self, item: Item, undo: Undo) -> Line
+        ensures { λ r. ⌜ r ≡ withUndo (withItem self item) undo ⌝ }
+    {
+        let setup = self.setup;
+        let sensor = self.sensor;
+        let last = self.last;
+        let foreign = self.foreign;
+        let sorter = self.sorter;
+        Line {
+            status: self.status,
+            error: self.error,
+            code: self.code,
+            setup: setup,
+            sensor: sensor,
+            last: last,
+            foreign: foreign,
+            item: item,
+            sorter: sorter,
+            undo: undo,
+        }
+    }
+}

@@ -1,0 +1,172 @@
+// A sample: the seven steps in order.
+ghost use mathlib.Core.Path.{_≡_};
+ghost use mathlib.Core.Bool.{true};
+ghost use Rattle.weight.specs.Weight.{isWeight};
+ghost use Rattle.settings.specs.Settings.{recordFit};
+ghost use Rattle.event.specs.Setup.{setupFit};
+ghost use Rattle.event.specs.Sample.{sampleRanged};
+ghost use Rattle.line.specs.Fit.{itemFit, lineFit};
+ghost use Rattle.line.specs.Sample.{step1, edgeMade, foreignRises, step2, step3, step4, step5, step6, detecting, step7, runningTick, guarded, fromStep3, sampled};
+use crate::effect::Effect;
+use crate::item::{Item, Weighed, new_item};
+use crate::line::{Last, Line};
+use event::Sample;
+use settings::Settings;
+
+// Edge 1 is off to on, edge 2 on to off.
+fn edge_made(edge: u64, before: u64, after: u64) -> bool
+    ensures { λ r. ⌜ r ≡ edgeMade edge before after ⌝ }
+{
+    if edge == 1 {
+        return (before == 0) & (after == 1);
+    }
+    (before == 1) & (after == 0)
+}
+
+impl Line {
+    fn foreign_rises(self, s: Sample) -> bool
+        ensures { λ r. ⌜ r ≡ foreignRises self s ⌝ }
+    {
+        (self.last.foreign == 0) & (s.foreign == 1)
+    }
+
+    // The sample is kept as the last, and the sensor settles, running or not.
+    fn step1(self, s: Sample) -> Line
+        ensures { λ r. ⌜ r ≡ step1 self s ⌝ }
+    {
+        let sensor = self.sensor;
+        let settled = sensor.settled(self.setup.tc, s.sensor);
+        let last = Last {
+            gross: s.gross,
+            safety: s.safety,
+            foreign: s.foreign,
+        };
+        self.with_sensed(settled, last)
+    }
+
+    // The emergency input.
+    fn step2(self, level: u64) -> Effect
+        ensures { λ r. ⌜ r ≡ step2 self level ⌝ }
+    {
+        if level == 1 {
+            return self.halting(Line::EMERGENCY);
+        }
+        if self.status == Line::EMERGENCY {
+            return self.halting(Line::STOPPED);
+        }
+        Effect::plain(self)
+    }
+
+    // The safety inputs.
+    fn step3(self) -> Line
+        ensures { λ r. ⌜ r ≡ step3 self ⌝ }
+    {
+        if mask::lowest_off(self.setup.need, self.last.safety) == 0 {
+            return self;
+        }
+        self.with_status(Line::PAUSED, 1)
+    }
+
+    // The sorter's times.
+    fn step4(self) -> Line
+        ensures { λ r. ⌜ r ≡ step4 self ⌝ }
+    {
+        let sorter = self.sorter;
+        let next = sorter.ticked(self.setup.to);
+        self.with_sorter(next)
+    }
+
+    // The foreign delay and flag.
+    fn step5(self, rises: bool) -> Line
+        ensures { λ r. ⌜ r ≡ step5 self rises ⌝ }
+    {
+        let foreign = self.foreign;
+        let next = foreign.ticked(rises, self.setup.tf);
+        self.with_foreign(next)
+    }
+
+    // The item in hand is weighed, and judged on its last tick.
+    fn step6(self, active: Settings, gross: i64) -> Effect
+        requires { ⌜ (setupFit (self .setup) ≡ true) × (itemFit (self .item) (self .setup) ≡ true) × (recordFit active ≡ true) × (isWeight gross ≡ true) ⌝ }
+        ensures { λ r. ⌜ r ≡ step6 self active gross ⌝ }
+    {
+        let item = self.item;
+        let setup = self.setup;
+        let weighed = item.weighed(setup, gross);
+        match weighed {
+            Weighed::Still(i) => Effect::plain(self.with_item(i)),
+            Weighed::Mean(m) => self.with_item(Item::None).judged(active, m),
+        }
+    }
+
+    // A detected box, alone or with one in hand.
+    fn step7(e: Effect, made: bool) -> Effect
+        ensures { λ r. ⌜ r ≡ step7 e made ⌝ }
+    {
+        let line = e.line;
+        if (line.status == Line::RUNNING) & made {
+            return Line::detecting(e);
+        }
+        e
+    }
+
+    fn detecting(e: Effect) -> Effect
+        ensures { λ r. ⌜ r ≡ detecting e ⌝ }
+    {
+        let line = e.line;
+        let item = line.item;
+        if item.in_hand() {
+            return line.with_item(Item::None).given(1, 7, 0);
+        }
+        let setup = line.setup;
+        let next = line.with_item(new_item(setup));
+        Effect {
+            line: next,
+            detected: 1,
+            outcome: e.outcome,
+            net: e.net,
+        }
+    }
+
+    // Steps 4 to 7.
+    fn running_tick(self, active: Settings, gross: i64, rises: bool, made: bool) -> Effect
+        requires { ⌜ (setupFit (self .setup) ≡ true) × (itemFit (self .item) (self .setup) ≡ true) × (recordFit active ≡ true) × (isWeight gross ≡ true) ⌝ }
+        ensures { λ r. ⌜ r ≡ runningTick self active gross rises made ⌝ }
+    {
+        let weighed = self.step4().step5(rises).step6(active, gross);
+        Line::step7(weighed, made)
+    }
+
+    // A running tick, unless step 3 ended the sample.
+    fn guarded(self, active: Settings, gross: i64, rises: bool, made: bool) -> Effect
+        requires { ⌜ (setupFit (self .setup) ≡ true) × (itemFit (self .item) (self .setup) ≡ true) × (recordFit active ≡ true) × (isWeight gross ≡ true) ⌝ }
+        ensures { λ r. ⌜ r ≡ guarded self active gross rises made ⌝ }
+    {
+        if self.status == Line::RUNNING {
+            return self.running_tick(active, gross, rises, made);
+        }
+        Effect::plain(self)
+    }
+
+    // What follows step 2: if the line is not running, the sample ends.
+    fn from_step3(e: Effect, active: Settings, gross: i64, rises: bool, made: bool) -> Effect
+        requires { ⌜ (setupFit (e .line .setup) ≡ true) × (itemFit (e .line .item) (e .line .setup) ≡ true) × (recordFit active ≡ true) × (isWeight gross ≡ true) ⌝ }
+        ensures { λ r. ⌜ r ≡ fromStep3 e active gross rises made ⌝ }
+    {
+        let line = e.line;
+        if line.status == Line::RUNNING {
+            return line.step3().guarded(active, gross, rises, made);
+        }
+        e
+    }
+
+    pub(crate) fn sampled(self, active: Settings, s: Sample) -> Effect
+        requires { ⌜ (lineFit self ≡ true) × (recordFit active ≡ true) × (sampleRanged s ≡ true) ⌝ }
+        ensures { λ r. ⌜ r ≡ sampled self active s ⌝ }
+    {
+        let rises = self.foreign_rises(s);
+        let next = self.step1(s);
+        let made = edge_made(self.setup.edge, self.sensor.level, next.sensor.level);
+        Line::from_step3(next.step2(s.emergency), active, s.gross, rises, made)
+    }
+}

@@ -1,0 +1,4 @@
+pub mod Roots
+pub mod Squares
+pub mod Tallies
+mod Digits

@@ -1,0 +1,21 @@
+-- `sd` meets its contract: below n = 2 the divisor is 0.
+use mathlib.Core.Path.{sym}
+use borrow.Author.Needs.{needs}
+use Rattle.spread.proofs.Tallies.{sd-none}
+use Rattle.spread.proofs.sd.Statement.{statement}
+use Rattle.spread.proofs.sd.Tie as tie
+
+returns : tie.Need-returns
+returns c = let a = c .before .args in sym (sd-none (a .n) (a .q) (a .s) (c .if1 .taken))
+
+sub-over : tie.Need-sub-over
+sub-over c = search needs
+
+over-requires : tie.Need-over-requires
+over-requires c κs = search needs
+
+returns-2 : tie.Need-returns-2
+returns-2 c = search needs
+
+pub sd-spec : {M : Type 1} → statement M
+sd-spec = tie.close (tie.spec returns sub-over over-requires returns-2)

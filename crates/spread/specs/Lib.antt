@@ -1,0 +1,4 @@
+pub mod Root
+pub mod Figures
+pub mod Bench
+pub mod Wide

@@ -1,0 +1,261 @@
+//! The kind `mixed`: realistic operation with every kind of event and report.
+
+use super::belt::Belt;
+use super::random::Random;
+use super::Source;
+use crate::event::{Event, Settings, Setup, TIMER, WEIGHT};
+use crate::line::Status;
+use crate::read::{self, Request};
+use crate::stream::Program;
+
+#[derive(Clone, Copy)]
+enum Kind {
+    Sample,
+    Run,
+    Stop,
+    Emergency,
+    Recall,
+    Cancel,
+    ClearCode,
+    ClearAll,
+    ErrorReset,
+    NoOperation,
+    Setup,
+    Store,
+    Report,
+}
+
+/// How often each kind is chosen when stopped, running, paused, in emergency.
+const CHOICES: [([i64; 4], Kind); 13] = [
+    ([300, 20_000, 500, 500], Kind::Sample),
+    ([250, 20, 300, 60], Kind::Run),
+    ([20, 80, 60, 60], Kind::Stop),
+    ([10, 10, 5, 60], Kind::Emergency),
+    ([20, 80, 20, 20], Kind::Recall),
+    ([20, 60, 20, 20], Kind::Cancel),
+    ([5, 10, 2, 5], Kind::ClearCode),
+    ([1, 3, 1, 1], Kind::ClearAll),
+    ([10, 20, 20, 10], Kind::ErrorReset),
+    ([10, 20, 5, 10], Kind::NoOperation),
+    ([200, 20, 10, 40], Kind::Setup),
+    ([100, 30, 20, 40], Kind::Store),
+    ([20, 100, 15, 10], Kind::Report),
+];
+
+#[derive(Clone, Copy, PartialEq, Eq)]
+enum Last {
+    Verdict,
+    /// A recall or a clear, which may end the chance to cancel.
+    Turn,
+    Other,
+}
+
+pub struct Mixed {
+    random: Random,
+    /// Follows the stream, so that the choices fit the line's status.
+    program: Program,
+    belt: Belt,
+    lines: u64,
+    /// What the last line was, for what mostly follows it.
+    last: Last,
+    /// Limits and tares among the largest weights.
+    heavy: bool,
+}
+
+impl Mixed {
+    pub fn new(seed: u64) -> Mixed {
+        let mut random = Random::new(seed);
+        let heavy = random.chance(300);
+        let (program, belt) = (Program::fresh(), Belt::default());
+        Mixed { random, program, belt, lines: 0, last: Last::Other, heavy }
+    }
+
+    /// A line for the present status. It is not followed yet.
+    pub fn propose(&mut self) -> Vec<u8> {
+        self.lines += 1;
+        let kind = match self.lines {
+            1..=6 => Kind::Store, // so that the codes mostly used have settings
+            7 => Kind::Setup,
+            _ => self.kind(),
+        };
+        self.text(kind).into_bytes()
+    }
+
+    fn kind(&mut self) -> Kind {
+        let (cancel, report) = match self.last {
+            Last::Verdict => (50, 50),
+            Last::Turn => (300, 100),
+            Last::Other => (0, 0),
+        };
+        if self.random.chance(cancel) {
+            return Kind::Cancel;
+        }
+        if self.random.chance(report) {
+            return Kind::Report;
+        }
+        let status = self.program.line.status as usize;
+        self.random.weighted(&CHOICES.map(|(weights, kind)| (weights[status], kind)))
+    }
+
+    /// Lets the own program take the line that was printed.
+    pub fn follow(&mut self, text: &[u8]) {
+        self.last = Last::Other;
+        if let Some(Request::Event(event)) = read::request(text) {
+            let Program { line, memory } = &mut self.program;
+            let reply = line.apply(memory, &event);
+            let judged = reply.is_ok_and(|reply| (1..=8).contains(&reply.done.outcome));
+            self.last = match event {
+                Event::Recall { .. } | Event::ClearCode { .. } | Event::ClearAll => Last::Turn,
+                _ if judged => Last::Verdict,
+                _ => Last::Other,
+            };
+        }
+    }
+
+    fn text(&mut self, kind: Kind) -> String {
+        match kind {
+            Kind::Sample => self.sample(),
+            Kind::Run => "COPR".into(),
+            Kind::Stop => "CSTD".into(),
+            Kind::Emergency => "CSTP".into(),
+            Kind::Recall => format!("CCOD{:04}", self.code(9_999)),
+            Kind::Cancel => "CCAC".into(),
+            Kind::ClearCode => format!("CDTL{:04}", self.code(9_999)),
+            Kind::ClearAll => "CETL".into(),
+            Kind::ErrorReset => "CRER".into(),
+            Kind::NoOperation => "CNOP".into(),
+            Kind::Setup => self.setup(),
+            Kind::Store => self.store(),
+            Kind::Report => format!("report={}", self.code(i64::MAX)),
+        }
+    }
+
+    /// Mostly the active or one of the first six codes, at times another or none.
+    fn code(&mut self, most: i64) -> i64 {
+        match self.random.between(0, 39) {
+            0 => self.random.pick(&[99, 100, 101, 256, 1000, most]),
+            1..=3 => self.random.between(6, 99),
+            4..=15 => self.program.line.code as i64,
+            _ => self.random.between(0, 5),
+        }
+    }
+
+    fn sample(&mut self) -> String {
+        let line = &self.program.line;
+        let (status, setup) = (line.status, line.setup);
+        let settings = self.program.memory.settings[line.code];
+        let random = &mut self.random;
+        self.belt.tick(random, &setup, &settings);
+        // A line at rest is mostly cleared of boxes, so that it can run again.
+        let gross = match status {
+            Status::Stopped | Status::Emergency if random.chance(700) => settings.nearzero.min(3),
+            _ => self.belt.gross(random),
+        };
+        let emergency = random.chance(match status {
+            Status::Emergency => 300,
+            Status::Stopped => 40,
+            _ => 1,
+        });
+        let safety = if random.chance(if status == Status::Paused { 200 } else { 20 }) {
+            random.between(0, 255)
+        } else {
+            setup.need | random.between(0, 255)
+        };
+        let mut v = [self.belt.sensor, i64::from(emergency), safety, self.belt.foreign, gross];
+        let rest = matches!(status, Status::Stopped | Status::Emergency);
+        self.stretch(&mut v, &[1, 1, 255, 1, WEIGHT], if rest { 100 } else { 6 });
+        format!(
+            "sensor={} emergency={} safety={} foreign={} gross={}",
+            v[0], v[1], v[2], v[3], v[4]
+        )
+    }
+
+    fn setup(&mut self) -> String {
+        let Setup { mode, edge, tc, tw, ta, tf, ts, to, sort, stop, need } = self.timers();
+        let mut v = [mode, edge, tc, tw, ta, tf, ts, to, sort, stop, need];
+        let most = [2, 2, TIMER, TIMER, TIMER, TIMER, TIMER, TIMER, 254, 255, 255];
+        self.stretch(&mut v, &most, 90);
+        format!(
+            "mode={} edge={} tc={} tw={} ta={} tf={} ts={} to={} sort={} stop={} need={}",
+            v[0], v[1], v[2], v[3], v[4], v[5], v[6], v[7], v[8], v[9], v[10]
+        )
+    }
+
+    /// Short timers mostly; at times waits so long that the queue overflows.
+    fn timers(&mut self) -> Setup {
+        let random = &mut self.random;
+        let (mode, edge) = random.pick(&[(1, 1), (1, 1), (1, 2), (1, 2), (2, 2), (2, 2), (2, 1)]);
+        let overflow = random.chance(300);
+        let crash = i64::from(!random.chance(40)); // a bit that sort must not have
+        let long = random.chance(60);
+        let ts = if overflow { random.between(100, 3000) } else { random.between(1, 25) };
+        let [a, b, c] = [(); 3].map(|()| random.between(0, 255));
+        let sort = if overflow { a | b } else { a };
+        let [one, other] = [(); 2].map(|()| 1 << random.between(0, 7));
+        Setup {
+            mode,
+            edge,
+            tc: random.between(0, if long { 12 } else { 4 }),
+            tw: random.between(0, if long { 80 } else { 4 }),
+            ta: random.between(1, if long { 40 } else { 4 }),
+            tf: random.between(0, if long { 60 } else { 6 }),
+            ts,
+            to: random.between(1, if long { 60 } else { 6 }),
+            sort: sort & !crash,
+            stop: random.pick(&[0, 0, one, a & b & c, b & c]),
+            need: random.pick(&[0, 0, other, a & c]),
+        }
+    }
+
+    fn store(&mut self) -> String {
+        let code = if self.lines <= 6 { self.lines as i64 - 1 } else { self.code(i64::MAX) };
+        let Settings { target, lolo, lo, hi, hihi, nearzero, tare } = self.settings();
+        let mut v = [code, target, lolo, lo, hi, hihi, nearzero, tare];
+        self.stretch(&mut v, &[99, WEIGHT, WEIGHT, WEIGHT, WEIGHT, WEIGHT, WEIGHT, WEIGHT], 90);
+        if self.random.chance(80) {
+            v.swap(2, 3 + self.random.below(3)); // out of order, if they differ
+        }
+        format!(
+            "code={} target={} lolo={} lo={} hi={} hihi={} nearzero={} tare={}",
+            v[0], v[1], v[2], v[3], v[4], v[5], v[6], v[7]
+        )
+    }
+
+    fn settings(&mut self) -> Settings {
+        let random = &mut self.random;
+        let scale = if self.heavy { 400 } else { 1 };
+        let target = random.between(-900, 1500) * scale;
+        let target = target.min(WEIGHT - 100 * scale);
+        let lo = target - random.between(0, 20) * scale;
+        let hi = target + random.between(0, 20) * scale;
+        Settings {
+            target,
+            lolo: lo - random.between(0, 30) * scale,
+            lo,
+            hi,
+            hihi: hi + random.between(0, 30) * scale,
+            nearzero: random.pick(&[0, 10, 50, 100]),
+            tare: random.pick(&[0, 0, 400, 1000, 1000]) * scale,
+        }
+    }
+
+    /// Puts a field to an end of its range or beyond, so many times in a thousand.
+    fn stretch(&mut self, values: &mut [i64], most: &[i64], per_thousand: i64) {
+        if self.random.chance(per_thousand) {
+            let place = self.random.below(values.len());
+            let most = most[place];
+            let ends = [0, most, most + 1, most + 1, -most, -most - 1, -1];
+            let beyond = [most * 10 + 9, 1 << 16, 1 << 32, i64::MAX, i64::MIN];
+            let near = self.random.chance(600);
+            values[place] = if near { self.random.pick(&ends) } else { self.random.pick(&beyond) };
+        }
+    }
+}
+
+impl Source for Mixed {
+    fn next_line(&mut self) -> Vec<u8> {
+        let text = self.propose();
+        self.follow(&text);
+        text
+    }
+}

@@ -1,0 +1,13 @@
+//! Document 01 as tests: the worked example, the bench marks, the readings of
+//! its places with two senses, the mistakes to shut out, and demand 3's book.
+
+mod bench;
+mod bench_marks;
+mod book;
+mod example;
+mod mistakes;
+mod operation;
+mod readings_line;
+mod readings_sheet;
+mod readings_text;
+mod stream;
