@@ -41,8 +41,8 @@ use Rattle.line.proofs.Accepted.{Accepted, Sound, sound-tells}
 use Rattle.book.specs.Book as book
 use Rattle.book.specs.Book.{Book, Verdict, Pages, turned, lastOff, talliedBy}
 use Rattle.book.specs.Page.{tallyOfPage}
-use Rattle.book.proofs.Level as level
-use Rattle.book.proofs.Ticks.{Went, hand, plain-goes, sample-goes, run-goes, stop-goes, emergency-goes}
+use Rattle.line.proofs.Moves as moves
+use Rattle.line.proofs.Ticks.{Went, hand, plain-goes, sample-goes, run-goes, stop-goes, emergency-goes}
 use Rattle.book.proofs.Pages.{Fine, none, more, page-none}
 use Rattle.book.proofs.Sheets.{chanceOf, beside, Back, Page, Sheets, Goes, put-sheet, zero-sheets, quiet, sample-sheets, with-undo, nothing-fit, turned-same}
 
@@ -119,7 +119,7 @@ command-goes : (l k : Line) (ts : List ℤ) (f g : Pages) (e : Event) → book.c
 unfolding book.noted replied talliedBy
 command-goes l k ts f g e c fit s b i =
     record {
-      pages = g; book = c; line = fit; sheets = s; back = b; tallied = refl; boxes = rw i (level.still (hand l));
+      pages = g; book = c; line = fit; sheets = s; back = b; tallied = refl; boxes = rw i (moves.still (hand l));
     }
 
 last-off : (p : List Verdict) → Page p → Page (lastOff p)

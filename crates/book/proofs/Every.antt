@@ -12,7 +12,7 @@ use lib.Seq.{getD-set-same, getD-set-other}
 use borrow.Author.Tests.{eqb-true, eqb-false, eq-eqb, leb-true}
 use Rattle.weight.specs.Choice.{if_then_else_}
 use Rattle.weight.proofs.Tests.{both, and-intro, if-ind, by-cases}
-use Rattle.settings.specs.Settings.{blank, recordFit, recordRanged, limitsOrdered}
+use Rattle.settings.specs.Settings.{blank, recordFit, recordRanged, limitsOrdered, settingsLength}
 use Rattle.settings.specs.declared.Settings.{Settings}
 use Rattle.device.specs.Sorter.{sorting, waiting, sorterOff, waitsFit, sorterFit}
 use Rattle.event.specs.Setup.{setupRanged, edgeAgrees}
@@ -24,7 +24,7 @@ use Rattle.tally.specs.Memory.{tallyAt, tallyAtFit, withTally, zeros, talliesLe
 use Rattle.line.specs.Line.{freshLine, inHand, busy, withUndo}
 use Rattle.line.specs.Fit.{lastFit, sensorFit, errorKnown, statusFit, itemFit, undoFit, lineFit}
 use Rattle.line.specs.Effect.{bit, plain, replied}
-use Rattle.line.specs.Refusal.{settingsLength, readsRecord, readsTally, memorySound, statusWrong, runUnsafe, runOccupied, nothingToCancel, noChance, refusalOf, isRun, inputOf}
+use Rattle.line.specs.Refusal.{readsRecord, readsTally, memorySound, statusWrong, runUnsafe, runOccupied, nothingToCancel, noChance, refusalOf, isRun, inputOf}
 use Rattle.line.specs.Tallying.{Out, isVerdict, untallied, tallied, passedOver, noted, recorded, cancelled}
 use Rattle.line.specs.Sample.{sampled}
 use Rattle.line.specs.Step.{accepted, refused, unlessRefused, stepOf, stored, activeOf, stepOn, settingsAfter}
@@ -39,9 +39,9 @@ use Rattle.book.specs.Book.{Book, Pages, talliedBy}
 use Rattle.book.specs.Run.{Turn, World, freshWorld, answer, after, runFrom, run, bookOf}
 use Rattle.book.specs.Boxes.{detectedBy, outcomeOf, sumOver, detectedIn, judgedIn, outcomesIn, isJudged, inHandAfter}
 use Rattle.book.specs.Claim.{refusalIn, talliedIn, Stands, Claim}
-use Rattle.book.proofs.Level as level
-use Rattle.book.proofs.Level.{Level}
-use Rattle.book.proofs.Ticks.{hand}
+use Rattle.line.proofs.Moves as moves
+use Rattle.book.proofs.Level.{Level, level}
+use Rattle.line.proofs.Ticks.{hand}
 use Rattle.book.proofs.Sheets.{chanceOf, beside, Back, Sheets, Goes, zero-sheets}
 use Rattle.book.proofs.Events.{Given, accepted-goes}
 
@@ -90,7 +90,7 @@ refused-goes : (l : Line) (ts : List ℤ) (f : Pages) (e : Event) (n : ℕ) → 
 unfolding book.noted talliedBy
 refused-goes l ts f e n g =
     record {
-      pages = f; book = refl; line = g .fit; sheets = g .sheets; back = g .back; tallied = refl; boxes = level.still (hand l);
+      pages = f; book = refl; line = g .fit; sheets = g .sheets; back = g .back; tallied = refl; boxes = moves.still (hand l);
     }
 
 answer-goes : (w : World) (e : Event) (h : Holds w) → Goes (w .line) (h .pages) e (answer w e)
@@ -129,13 +129,13 @@ unfolding bookOf
 holds-after w e h =
     let g = answer-goes w e h in
     let t : Turn = record { event = e; reply = answer w e .reply } in
-    let i = in-hand-more t (w .history) (hand (w .line)) (hand (answer w e .line)) (h .item) (g .boxes) in
+    let i = in-hand-more t (w .history) (hand (w .line)) (hand (answer w e .line)) (h .item) (level (g .boxes)) in
     record {
       pages = g .pages;
       book = rw (h .book) (g .book);
       given = record { fit = g .line; sheets = g .sheets; back = g .back };
       records = records-after w e h;
-      balance = balance-more t (w .history) (hand (w .line)) (hand (answer w e .line)) (h .item) i (g .boxes) (h .balance);
+      balance = balance-more t (w .history) (hand (w .line)) (hand (answer w e .line)) (h .item) i (level (g .boxes)) (h .balance);
       item = i;
     }
 

@@ -1,7 +1,5 @@
 pub mod Example
 pub mod Level
-pub mod Keeps
-pub mod Ticks
 pub mod Pages
 pub mod Sheets
 pub mod Events

@@ -17,6 +17,7 @@ use Rattle.weight.proofs.Tests.{both, and-intro, if-ind}
 use Rattle.weight.proofs.Signed.{abs-add}
 use Rattle.tally.specs.Tally.{graded, total, emptyTally, tallyFit, hasRoom, isGrade, one, largestWith, smallestWith, countedWith, weighedWith, added}
 use Rattle.tally.specs.declared.tally.Tally.{Tally}
+use Rattle.tally.proofs.Ones.{ones, grade-ones}
 use Rattle.book.specs.Book.{Verdict, isVerdict}
 use Rattle.book.specs.Page.{countOf, netsOf, sumOf, squaresOf, largestFrom, smallestFrom, largestOf, smallestOf, tallyOfPage}
 
@@ -63,34 +64,6 @@ page-more v p = go (within 1 5 (v .outcome)) refl
     go false e = rw e refl
 
 -- ---- totals
-
--- a verdict from 1 to 8 is one of the eight counts
-ones : (o : ℕ) → isVerdict o ≡ true → one o 1 + one o 2 + one o 3 + one o 4 + one o 5 + one o 6 + one o 7 + one o 8 ≡ 1
-ones zero h = absurd (subst T (sym h) tt)
-ones (suc zero) h = refl
-ones (suc (suc zero)) h = refl
-ones (suc (suc (suc zero))) h = refl
-ones (suc (suc (suc (suc zero)))) h = refl
-ones (suc (suc (suc (suc (suc zero))))) h = refl
-ones (suc (suc (suc (suc (suc (suc zero)))))) h = refl
-ones (suc (suc (suc (suc (suc (suc (suc zero))))))) h = refl
-ones (suc (suc (suc (suc (suc (suc (suc (suc zero)))))))) h = refl
-ones (suc (suc (suc (suc (suc (suc (suc (suc (suc k))))))))) h =
-    let o = suc (suc (suc (suc (suc (suc (suc (suc (suc k)))))))) in
-    absurd (omega (arith, leb-true o 8 (both (leb 1 o) (leb o 8) h .1)))
-
--- and a grade one of the first five
-grade-ones : (o : ℕ) → one o 1 + one o 2 + one o 3 + one o 4 + one o 5 ≡ (if within 1 5 o then 1 else 0)
-grade-ones zero = refl
-grade-ones (suc zero) = refl
-grade-ones (suc (suc zero)) = refl
-grade-ones (suc (suc (suc zero))) = refl
-grade-ones (suc (suc (suc (suc zero)))) = refl
-grade-ones (suc (suc (suc (suc (suc zero))))) = refl
-grade-ones (suc (suc (suc (suc (suc (suc k)))))) =
-    let o = suc (suc (suc (suc (suc (suc k))))) in
-    rw (ne-eqb o 1 (λ h. omega arith), ne-eqb o 2 (λ h. omega arith), ne-eqb o 3 (λ h. omega arith), ne-eqb o 4 (λ h. omega arith),
-    ne-eqb o 5 (λ h. omega arith), le-leb 1 o (omega arith), lt-leb o 5 (omega arith))
 
 -- a verdict that a line gives
 pub record Proper (v : Verdict) : Type 0 where

@@ -12,7 +12,7 @@ use borrow.Author.Tests.{eqb-true, eqb-false, eq-eqb, ne-eqb, leb-true, ltb-true
 use Rattle.weight.specs.Choice.{if_then_else_, within}
 use Rattle.weight.specs.Weight.{isWeight}
 use Rattle.weight.proofs.Tests.{both, and-intro, if-ind, by-cases}
-use Rattle.settings.specs.Settings.{blank, recordFit}
+use Rattle.settings.specs.Settings.{blank, recordFit, settingsLength}
 use Rattle.settings.specs.declared.Settings.{Settings}
 use Rattle.event.specs.declared.Event.{Event}
 use Rattle.event.specs.declared.Event.the-variants.{Sample, Run, Stop, Emergency, Recall, Cancel, ClearCode, ClearAll, ErrorReset, NoOperation, Setup, Store}
@@ -23,7 +23,6 @@ use Rattle.tally.proofs.Parts.{length-kept, tally-same, fit-same, tally-other, 
 use Rattle.line.specs.Line.{busy, withUndo}
 use Rattle.line.specs.Fit.{undoFit, statusFit}
 use Rattle.line.specs.Effect.{plain, replied}
-use Rattle.line.specs.Refusal.{settingsLength}
 use Rattle.line.specs.Tallying.{Out, isVerdict, untallied, tallied, passedOver, noted, recorded}
 use Rattle.line.specs.declared.line.Undo.{Undo}
 use Rattle.line.specs.declared.line.Undo.the-variants.{Nothing, Kept}
@@ -36,9 +35,8 @@ use Rattle.book.specs.Book.{Book, Verdict, Pages, turned, lastOff, hasPl
 use Rattle.book.specs.Page.{tallyOfPage}
 use Rattle.book.specs.Boxes.{detectedBy, outcomeOf}
 use Rattle.book.specs.Claim.{talliedIn}
-use Rattle.book.proofs.Level as level
-use Rattle.book.proofs.Level.{Level}
-use Rattle.book.proofs.Ticks.{Went, hand}
+use Rattle.line.proofs.Moves.{Moves}
+use Rattle.line.proofs.Ticks.{Went, hand}
 use Rattle.book.proofs.Pages.{Proper, Fine, none, more, page-more, page-fit, page-room, page-none}
 
 abbrev pub chanceOf : Undo → Bool
@@ -102,7 +100,7 @@ pub record Goes (l : Line) (f : Pages) (e : Event) (o : Out) : Type 0 where
   pub sheets : Sheets (o .tallies) pages
   pub back : Back (o .line .undo) (pages (o .line .code))
   pub tallied : talliedIn (o .reply) ≡ talliedBy (beside l f) (o .reply)
-  pub boxes : Level (hand l) (detectedBy (o .reply)) (outcomeOf (o .reply)) (hand (o .line))
+  pub boxes : Moves (hand l) (detectedBy (o .reply)) (outcomeOf (o .reply)) (hand (o .line))
 
 beside-same : (l k : Line) (f : Pages) → k .code ≡ l .code → k .undo ≡ l .undo → beside l f ≡ beside k f
 beside-same l k f c u = rw (c, u)
@@ -136,7 +134,7 @@ with-undo k u f h =
     }
 
 -- the reply shows the effect
-shown : (x : Effect) (n : ℕ) (k : Line) {a : ℕ} → Level a (x .detected) (x .outcome) (hand k) → Level a (detectedBy (replied x n)) (outcomeOf (replied x n)) (hand k)
+shown : (x : Effect) (n : ℕ) (k : Line) {a : ℕ} → Moves a (x .detected) (x .outcome) (hand k) → Moves a (detectedBy (replied x n)) (outcomeOf (replied x n)) (hand k)
 unfolding replied
 shown x n k h = h
 

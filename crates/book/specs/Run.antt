@@ -3,12 +3,11 @@ use Prim.Native.Nat.{ℕ}
 use mathlib.Core.List.{List, [], _∷_}
 use lib.IntN.{ℤ}
 use lib.ListN.{replicate}
-use Rattle.settings.specs.Settings.{blank}
+use Rattle.settings.specs.Settings.{blank, settingsLength}
 use Rattle.settings.specs.declared.Settings.{Settings}
 use Rattle.event.specs.declared.Event.{Event}
 use Rattle.tally.specs.Memory.{zeros, talliesLength}
 use Rattle.line.specs.Line.{freshLine}
-use Rattle.line.specs.Refusal.{settingsLength}
 use Rattle.line.specs.Tallying.{Out}
 use Rattle.line.specs.Step.{stepOn, settingsAfter}
 use Rattle.line.specs.declared.line.Line.{Line}

@@ -1,1 +1,8 @@
-// The claim of demand 3, over every list of events.
+// Demand 3: no box is counted twice or lost, whatever list of events comes.
+ghost use Rattle.book.specs.Claim.{Claim};
+
+// The claim over every list of events, from a fresh line and fresh memory. It says nothing of the code here: it is a
+// theorem on `stepOn`, which `line::Line::apply` is proved to be.
+pub fn ledger()
+    ensures { λ _. ⌜ Claim ⌝ }
+{}

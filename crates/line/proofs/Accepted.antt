@@ -10,14 +10,18 @@ use lib.ListN.{length}
 use borrow.Author.Tests.{not-false, eqb-true}
 use Rattle.weight.specs.Choice.{if_then_else_}
 use Rattle.weight.proofs.Tests.{both}
-use Rattle.settings.specs.Settings.{recordFit}
+use Rattle.settings.specs.Settings.{recordFit, settingsLength}
 use Rattle.settings.specs.declared.Settings.{Settings}
-use Rattle.event.specs.Event.{eventRanged, eventAgrees}
+use Rattle.event.specs.Sample.{sampleRanged}
+use Rattle.event.specs.Event.{isCode, eventRanged, eventAgrees}
+use Rattle.event.specs.declared.Sample as sample
+use Rattle.event.specs.declared.Event.the-variants.{Sample, Cancel, ClearCode, ClearAll}
 use Rattle.event.specs.declared.Event.{Event}
 use Rattle.tally.specs.Memory.{tallyAtFit, talliesLength}
-use Rattle.line.specs.Fit.{lineFit}
-use Rattle.line.specs.Refusal.{settingsLength, readsRecord, readsTally, memorySound, statusWrong, runUnsafe, runOccupied, nothingToCancel, refusalOf}
+use Rattle.line.specs.Fit.{lineFit, undoFit}
+use Rattle.line.specs.Refusal.{readsRecord, readsTally, memorySound, statusWrong, runUnsafe, runOccupied, nothingToCancel, refusalOf}
 use Rattle.line.specs.declared.line.Line.{Line}
+use Rattle.line.proofs.Facts.{fit-tells}
 
 pub record Accepted (l : Line) (count : ℕ) (a : Settings) (ts : List ℤ) (e : Event) : Type 0 where
   pub sound : memorySound l count a ts e ≡ true
@@ -65,3 +69,24 @@ sound-tells l count a ts e h =
     record {
       records = eqb-true _ _ (n .0); tallies = eqb-true _ _ (n .1); line = f .1; active = r .1; tally = t .1;
     }
+
+-- ---- what an accepted event of each kind gives to its method
+
+module _ (l : Line) (count : ℕ) (a : Settings) (ts : List ℤ) where
+  pub sample-given : (s : sample.Sample) → Accepted l count a ts (Sample s)
+      → (lineFit l ≡ true) × (recordFit a ≡ true) × (sampleRanged s ≡ true) × (length ts ≡ talliesLength) × (tallyAtFit ts (l .code) ≡ true)
+  unfolding eventRanged
+  sample-given s h = let m = sound-tells l count a ts (Sample s) (h .sound) in (m .line, m .active, h .ranged, m .tallies, m .tally)
+
+  pub cancel-given : Accepted l count a ts Cancel → (isCode (l .code) ≡ true) × (undoFit (l .undo) ≡ true) × (length ts ≡ talliesLength)
+  cancel-given h =
+      let m = sound-tells l count a ts Cancel (h .sound) in
+      let f = fit-tells l (m .line) in
+      (f .code, f .undo, m .tallies)
+
+  pub clear-code-given : (c : ℕ) → Accepted l count a ts (ClearCode c) → (isCode c ≡ true) × (length ts ≡ talliesLength)
+  unfolding eventRanged
+  clear-code-given c h = (h .ranged, sound-tells l count a ts (ClearCode c) (h .sound) .tallies)
+
+  pub clear-all-given : Accepted l count a ts ClearAll → length ts ≡ talliesLength
+  clear-all-given h = sound-tells l count a ts ClearAll (h .sound) .tallies

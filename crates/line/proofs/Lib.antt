@@ -1,3 +1,8 @@
 pub mod Facts
 pub mod Accepted
 pub mod Items
+pub mod Steps
+pub mod Moves
+pub mod Keeps
+pub mod Ticks
+pub mod Tallies

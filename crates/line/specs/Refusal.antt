@@ -8,7 +8,7 @@ use lib.ListN.{length}
 use lib.Signed.{ltZ}
 use Rattle.weight.specs.Choice.{if_then_else_}
 use Rattle.mask.specs.Bits.{lowestOff}
-use Rattle.settings.specs.Settings.{recordFit}
+use Rattle.settings.specs.Settings.{recordFit, settingsLength}
 use Rattle.settings.specs.declared.Settings.{Settings}
 use Rattle.event.specs.Event.{eventRanged, eventAgrees}
 use Rattle.event.specs.declared.Event.{Event}
@@ -19,10 +19,6 @@ use Rattle.line.specs.Fit.{lineFit}
 use Rattle.line.specs.declared.line.Undo.{Undo}
 use Rattle.line.specs.declared.line.Undo.the-variants.{Nothing, Kept}
 use Rattle.line.specs.declared.line.Line.{Line}
-
--- the hundred settings records
-abbrev pub settingsLength : ℕ
-settingsLength = 100
 
 -- "run and sample the active record"
 abbrev pub readsRecord : Event → Bool

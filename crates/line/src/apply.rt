@@ -1,1 +1,170 @@
-// apply
+// The twelve events on the line, and the one way to apply them.
+ghost use mathlib.Core.Path.{_≡_};
+ghost use mathlib.Core.Bool.{true};
+ghost use mathlib.Core.List.{[]};
+ghost use lib.ListN.{length};
+ghost use Rattle.settings.specs.Settings.{recordFit};
+ghost use Rattle.event.specs.Sample.{sampleRanged};
+ghost use Rattle.event.specs.Event.{isCode};
+ghost use Rattle.tally.specs.Memory.{talliesLength, tallyAtFit};
+ghost use Rattle.line.specs.Line.{noError, withStatus, withSetup};
+ghost use Rattle.line.specs.Fit.{lineFit, undoFit};
+ghost use Rattle.line.specs.Effect.{plain};
+ghost use Rattle.line.specs.Sample.{sampled};
+ghost use Rattle.line.specs.Command.{ran, stopping, alarmed};
+ghost use Rattle.line.specs.Tallying.{stepIn, untallied, recorded, cancelled, recalled, codeCleared, clearedOne, clearedAll};
+ghost use Rattle.line.specs.Refusal.{refusalOf};
+ghost use Rattle.line.specs.Step.{accepted, stepOf};
+use crate::effect::Effect;
+use crate::line::{Line, Undo};
+use crate::reply::{Reply, Step};
+use event::{Event, Sample, Setup};
+use settings::Settings;
+use tally::Tally;
+
+// What changes neither the line nor a tally, or the line alone.
+impl Line {
+    fn run(self) -> Step
+        ensures { λ r. ⌜ r ≡ stepIn (untallied (ran self) []) ⌝ }
+    {
+        self.ran().untallied()
+    }
+
+    fn stop(self) -> Step
+        ensures { λ r. ⌜ r ≡ stepIn (untallied (stopping self) []) ⌝ }
+    {
+        self.stopping().untallied()
+    }
+
+    fn emergency(self) -> Step
+        ensures { λ r. ⌜ r ≡ stepIn (untallied (alarmed self) []) ⌝ }
+    {
+        self.alarmed().untallied()
+    }
+
+    fn recall(self, code: u64) -> Step
+        ensures { λ r. ⌜ r ≡ stepIn (untallied (plain (recalled self code)) []) ⌝ }
+    {
+        Effect::plain(self.with_undo(Undo::Nothing).with_code(code)).untallied()
+    }
+
+    fn error_reset(self) -> Step
+        ensures { λ r. ⌜ r ≡ stepIn (untallied (plain (withStatus self (self .status) noError)) []) ⌝ }
+    {
+        Effect::plain(self.with_status(self.status, Line::NO_ERROR)).untallied()
+    }
+
+    fn no_operation(self) -> Step
+        ensures { λ r. ⌜ r ≡ stepIn (untallied (plain self) []) ⌝ }
+    {
+        Effect::plain(self).untallied()
+    }
+
+    fn set_up(self, setup: Setup) -> Step
+        ensures { λ r. ⌜ r ≡ stepIn (untallied (plain (withSetup self setup)) []) ⌝ }
+    {
+        Effect::plain(self.with_setup(setup)).untallied()
+    }
+
+    // The record is stored by whoever lends the settings.
+    fn store(self) -> Step
+        ensures { λ r. ⌜ r ≡ stepIn (untallied (plain self) []) ⌝ }
+    {
+        Effect::plain(self).untallied()
+    }
+}
+
+// What changes tallies.
+impl Line {
+    fn sample(self, active: Settings, tallies: &mut [i64], s: Sample) -> Step
+        requires { ⌜ (lineFit self ≡ true) × (recordFit active ≡ true) × (sampleRanged s ≡ true) × (length (now tallies) ≡ talliesLength) × (tallyAtFit (now tallies) (self .code) ≡ true) ⌝ }
+        ensures answer { λ r. ⌜ r ≡ stepIn (recorded (sampled self active s) (now (tallies .entry))) ⌝ }
+        ensures memory { λ r. ⌜ now (tallies .exit) ≡ recorded (sampled self active s) (now (tallies .entry)) .tallies ⌝ }
+    {
+        self.sampled(active, s).recorded(tallies)
+    }
+
+    fn cancel(self, tallies: &mut [i64]) -> Step
+        requires { ⌜ (isCode (self .code) ≡ true) × (undoFit (self .undo) ≡ true) × (length (now tallies) ≡ talliesLength) ⌝ }
+        ensures answer { λ r. ⌜ r ≡ stepIn (cancelled self (now (tallies .entry)) (self .undo)) ⌝ }
+        ensures memory { λ r. ⌜ now (tallies .exit) ≡ cancelled self (now (tallies .entry)) (self .undo) .tallies ⌝ }
+    {
+        let undo = self.undo;
+        let Undo::Kept(t) = undo else {
+            return self.no_operation();
+        };
+        tally::write(tallies, self.code, t);
+        Effect::plain(self.with_undo(Undo::Nothing)).untallied()
+    }
+
+    // Clearing the active code ends the chance to cancel.
+    fn code_cleared(self, code: u64) -> Line
+        ensures { λ r. ⌜ r ≡ codeCleared self code ⌝ }
+    {
+        if code == self.code {
+            return self.with_undo(Undo::Nothing);
+        }
+        self
+    }
+
+    fn clear_code(self, tallies: &mut [i64], code: u64) -> Step
+        requires { ⌜ (isCode code ≡ true) × (length (now tallies) ≡ talliesLength) ⌝ }
+        ensures answer { λ r. ⌜ r ≡ stepIn (clearedOne self (now (tallies .entry)) code) ⌝ }
+        ensures memory { λ r. ⌜ now (tallies .exit) ≡ clearedOne self (now (tallies .entry)) code .tallies ⌝ }
+    {
+        tally::write(tallies, code, Tally::empty());
+        Effect::plain(self.code_cleared(code)).untallied()
+    }
+
+    fn clear_all(self, tallies: &mut [i64]) -> Step
+        requires { ⌜ length (now tallies) ≡ talliesLength ⌝ }
+        ensures answer { λ r. ⌜ r ≡ stepIn (clearedAll self) ⌝ }
+        ensures memory { λ r. ⌜ now (tallies .exit) ≡ clearedAll self .tallies ⌝ }
+    {
+        tally::clear(tallies);
+        Effect::plain(self.with_undo(Undo::Nothing)).untallied()
+    }
+}
+
+impl Line {
+    fn accepted(self, count: u64, active: Settings, tallies: &mut [i64], e: Event) -> Step
+        requires { ⌜ refusalOf self count active (now tallies) e ≡ 0 ⌝ }
+        ensures answer { λ r. ⌜ r ≡ stepIn (accepted self active (now (tallies .entry)) e) ⌝ }
+        ensures memory { λ r. ⌜ now (tallies .exit) ≡ accepted self active (now (tallies .entry)) e .tallies ⌝ }
+    {
+        match e {
+            Event::Sample(s) => self.sample(active, tallies, s),
+            Event::Run => self.run(),
+            Event::Stop => self.stop(),
+            Event::Emergency => self.emergency(),
+            Event::Recall(c) => self.recall(c),
+            Event::Cancel => self.cancel(tallies),
+            Event::ClearCode(c) => self.clear_code(tallies, c),
+            Event::ClearAll => self.clear_all(tallies),
+            Event::ErrorReset => self.error_reset(),
+            Event::NoOperation => self.no_operation(),
+            Event::Setup(s) => self.set_up(s),
+            Event::Store(_, _) => self.store(),
+        }
+    }
+
+    // An event on the line and its tallies, where `count` settings records are lent and `active` is the active code's.
+    // Refused, it changes nothing; accepted, it gives the next line, and a verdict, a cancel or a clear changes tallies.
+    pub fn apply(self, count: u64, active: Settings, tallies: &mut [i64], e: Event) -> Step
+        ensures answer { λ r. ⌜ r ≡ stepIn (stepOf self count active (now (tallies .entry)) e) ⌝ }
+        ensures memory { λ r. ⌜ now (tallies .exit) ≡ stepOf self count active (now (tallies .entry)) e .tallies ⌝ }
+    {
+        let number = self.refusal(count, active, &*tallies, e);
+        if number != 0 {
+            let reply = Reply::Refused {
+                number: number,
+                input: self.input(number),
+            };
+            return Step {
+                line: self,
+                reply: reply,
+            };
+        }
+        self.accepted(count, active, tallies, e)
+    }
+}

@@ -1,4 +1,5 @@
 -- 01, "Line and memory" and "Store": a code's settings record, and when it is fit.
+use Prim.Native.Nat.{ℕ}
 use mathlib.Core.Bool.{Bool, _&&_}
 use lib.IntN.{ℤ, pos}
 use lib.Signed.{leZ}
@@ -23,6 +24,10 @@ limitsOrdered s =
 -- "A record is fit as store takes it"
 abbrev pub recordFit : Settings → Bool
 recordFit s = recordRanged s && limitsOrdered s
+
+-- "The hundred settings records"
+abbrev pub settingsLength : ℕ
+settingsLength = 100
 
 -- a record of fresh memory: all zeros
 abbrev pub blank : Settings

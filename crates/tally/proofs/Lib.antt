@@ -1,3 +1,5 @@
 pub mod Facts
+pub mod Ones
+pub mod Added
 pub mod Lists
 pub mod Parts

@@ -59,6 +59,7 @@ pub fn clear(tallies: &mut [i64])
     }
 }
 
+// A count below 0 is unfit, so the signs are tested before the sizes are taken.
 fn lent_in(p: &[i64]) -> Lent
     requires { ⌜ length (now p) ≡ 13 ⌝ }
     ensures { λ r. ⌜ r ≡ lentOf (now (p .entry)) ⌝ }
@@ -66,11 +67,11 @@ fn lent_in(p: &[i64]) -> Lent
     if !is_unsigned(p) {
         return Lent::Unfit;
     }
-    let t = tally_of(p);
-    if !t.fit() {
+    let held = tally_of(p);
+    if !held.fit() {
         return Lent::Unfit;
     }
-    Lent::Fit(t)
+    Lent::Fit(held)
 }
 
 fn is_unsigned(p: &[i64]) -> bool
@@ -117,6 +118,7 @@ fn count_at(p: &[i64], k: usize) -> u64
     size(p[k])
 }
 
+// The numbers of a fit tally are far below 2^63, so that the casts keep them.
 fn put(p: &mut [i64], t: Tally)
     requires { ⌜ (length (now p) ≡ 13) × (Small t) × (t .squares < 2 ^ 63) ⌝ }
     ensures { λ _. ⌜ now (p .exit) ≡ numbers t ⌝ }

@@ -1,8 +1,8 @@
 -- `count_at` is the size of a part's number. Assumes nothing.
+use borrow.Author.Needs.{needs}
 use lib.IntN.{pos}
 use lib.ListN.{getD}
 use Rattle.weight.proofs.Signed.{back}
-use borrow.Author.Needs.{needs}
 use Rattle.tally.proofs.memory.count_at.Statement.{statement}
 use Rattle.tally.proofs.memory.count_at.Tie as tie
 

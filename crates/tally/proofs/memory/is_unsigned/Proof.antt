@@ -1,9 +1,9 @@
 -- `is_unsigned` tests the ten numbers that have no sign. Assumes nothing.
+use borrow.Author.Needs.{needs}
 use lib.IntN.{pos}
 use lib.ListN.{getD}
 use Rattle.weight.proofs.Signed.{back}
 use Rattle.tally.specs.Memory.{unsigned}
-use borrow.Author.Needs.{needs}
 use Rattle.tally.proofs.memory.is_unsigned.Statement.{statement}
 use Rattle.tally.proofs.memory.is_unsigned.Tie as tie
 

@@ -1,11 +1,11 @@
 -- `lent_in` gives the tally of a part that is fit. Assumes nothing.
+use borrow.Author.Needs.{needs}
 use mathlib.Core.Path.{_≡_, sym, _∙_}
 use mathlib.Core.Bool.{true, false}
 use denote.Ref.{now}
 use borrow.Author.Tests.{not-true, not-false}
 use Rattle.tally.specs.Tally.{tallyFit}
-use Rattle.tally.specs.Memory.{tallyOf, unsigned}
-use borrow.Author.Needs.{needs}
+use Rattle.tally.specs.Memory.{unsigned}
 use Rattle.tally.proofs.memory.lent_in.Statement.{statement}
 use Rattle.tally.proofs.memory.lent_in.Tie as tie
 

@@ -1,9 +1,9 @@
 -- `put` stores the thirteen numbers in their order. Assumes nothing.
+use borrow.Author.Needs.{needs}
 use native.Mathlib.Omega.{arith}
 use lib.ListN.{length-set}
 use Rattle.weight.proofs.Signed.{back, toZ-small}
 use Rattle.tally.proofs.Lists.{spread}
-use borrow.Author.Needs.{needs}
 use Rattle.tally.proofs.memory.put.Statement.{statement}
 use Rattle.tally.proofs.memory.put.Tie as tie
 

@@ -1,10 +1,10 @@
 -- `read` gives code's fit tally. Assumes nothing.
+use borrow.Author.Needs.{needs}
 use mathlib.Core.Path.{_≡_}
 use Prim.Native.Nat.{_+_, _-_, _*_}
 use native.Mathlib.Omega.{arith}
 use borrow.Author.Tests.{lt-leb, le-leb, eq-eqb, ne-eqb}
 use Rattle.tally.specs.Memory.{part, tallyAtFit, lentAt}
-use borrow.Author.Needs.{needs}
 use Rattle.tally.proofs.memory.read.Statement.{statement}
 use Rattle.tally.proofs.memory.read.Tie as tie
 

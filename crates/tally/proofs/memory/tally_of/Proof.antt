@@ -1,9 +1,9 @@
 -- `tally_of` is the tally whose numbers these are. Assumes nothing.
+use borrow.Author.Needs.{needs}
 use lib.IntN.{pos}
 use lib.ListN.{getD}
 use Rattle.weight.proofs.Signed.{back}
 use Rattle.tally.specs.Memory.{tallyOf}
-use borrow.Author.Needs.{needs}
 use Rattle.tally.proofs.memory.tally_of.Statement.{statement}
 use Rattle.tally.proofs.memory.tally_of.Tie as tie
 

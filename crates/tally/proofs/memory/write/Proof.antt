@@ -1,4 +1,5 @@
 -- `write` puts a fit tally into code's part, and else leaves the memory. Assumes nothing.
+use borrow.Author.Needs.{needs}
 use mathlib.Core.Path.{_≡_, sym, _∙_}
 use mathlib.Core.Bool.{true, false}
 use Prim.Native.Nat.{_+_, _*_}
@@ -8,7 +9,6 @@ use borrow.Author.Tests.{lt-leb, le-leb, eq-eqb, ne-eqb, not-true, not-false}
 use Rattle.tally.specs.Tally.{tallyFit}
 use Rattle.tally.specs.Memory.{withTally}
 use Rattle.tally.proofs.Facts.{fit-tells}
-use borrow.Author.Needs.{needs}
 use Rattle.tally.proofs.memory.write.Statement.{statement}
 use Rattle.tally.proofs.memory.write.Tie as tie
 

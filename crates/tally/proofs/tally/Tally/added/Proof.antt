@@ -1,5 +1,4 @@
 -- `added` counts the verdict, and a grade's net with it. Assumes nothing.
-use mathlib.Core.Path.{sym}
 use mir.Facts.{toZ-ofZ}
 use Rattle.tally.specs.Tally.{countedWith, added}
 use Rattle.tally.proofs.Facts.{fit-tells}

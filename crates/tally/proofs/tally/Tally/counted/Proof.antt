@@ -1,7 +1,7 @@
 -- `counted` adds 1 to the verdict's own count and 0 to the others. Assumes nothing.
+use borrow.Author.Needs.{needs}
 use native.Mathlib.Omega.{arith}
 use Rattle.tally.specs.Tally.{countedWith}
-use borrow.Author.Needs.{needs}
 use Rattle.tally.proofs.tally.Tally.counted.Statement.{statement}
 use Rattle.tally.proofs.tally.Tally.counted.Tie as tie
 
@@ -45,13 +45,17 @@ one-if-requires-7 : tie.Need-one-if-requires-7
 one-if-requires-7 c κs = search needs
 
 add-self-7 : tie.Need-add-self-7
-add-self-7 c = omega (arith, c .before .one-if7 .ensures .1, c .before .before .before .before .before .before .before .before .before .before .before .before .before .before .pre)
+add-self-7 c =
+    let s = c .before .before .before .before .before .before .before .before .before .before .before .before .before .before in
+    omega (arith, c .before .one-if7 .ensures .1, s .pre)
 
 one-if-requires-8 : tie.Need-one-if-requires-8
 one-if-requires-8 c κs = search needs
 
 add-self-8 : tie.Need-add-self-8
-add-self-8 c = omega (arith, c .before .one-if8 .ensures .1, c .before .before .before .before .before .before .before .before .before .before .before .before .before .before .before .before .pre)
+add-self-8 c =
+    let s = c .before .before .before .before .before .before .before .before .before .before .before .before .before .before .before .before in
+    omega (arith, c .before .one-if8 .ensures .1, s .pre)
 
 returns : tie.Need-returns
 unfolding countedWith

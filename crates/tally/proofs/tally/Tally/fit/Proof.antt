@@ -1,4 +1,5 @@
 -- `fit` is the definition's test: with a count that is not small it is false, and past that nothing overflows. Assumes nothing.
+use borrow.Author.Needs.{needs}
 use mathlib.Core.Path.{sym, _∙_}
 use native.Mathlib.Omega.{arith}
 use borrow.Author.Tests.{not-true, not-false}
@@ -6,7 +7,6 @@ use Rattle.weight.proofs.Signed.{back}
 use Rattle.tally.specs.Tally.{tallyFit}
 use Rattle.tally.specs.Steps.{Small}
 use Rattle.tally.proofs.Facts.{small-tells, large-unfit}
-use borrow.Author.Needs.{needs}
 use Rattle.tally.proofs.tally.Tally.fit.Statement.{statement}
 use Rattle.tally.proofs.tally.Tally.fit.Tie as tie
 

@@ -1,6 +1,6 @@
 -- `has_room` tests the total. Assumes nothing.
-use Rattle.tally.specs.Tally.{hasRoom}
 use borrow.Author.Needs.{needs}
+use Rattle.tally.specs.Tally.{hasRoom}
 use Rattle.tally.proofs.tally.Tally.has_room.Statement.{statement}
 use Rattle.tally.proofs.tally.Tally.has_room.Tie as tie
 

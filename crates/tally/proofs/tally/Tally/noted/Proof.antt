@@ -1,4 +1,5 @@
 -- `noted` tallies with a fit tally, a verdict of 1 to 8, a weight and room; else it does not. Assumes nothing.
+use borrow.Author.Needs.{needs}
 use mathlib.Core.Path.{_≡_, sym, ap, _∙_}
 use mathlib.Core.Bool.{true, false, _&&_}
 use borrow.Author.Tests.{leb-true, not-true, not-false}
@@ -8,7 +9,6 @@ use Rattle.weight.specs.Weight.{isWeight}
 use Rattle.weight.proofs.Tests.{both}
 use Rattle.tally.specs.Tally.{tallyFit, hasRoom, notedOf}
 use Rattle.tally.proofs.Facts.{fit-tells}
-use borrow.Author.Needs.{needs}
 use Rattle.tally.proofs.tally.Tally.noted.Statement.{statement}
 use Rattle.tally.proofs.tally.Tally.noted.Tie as tie
 

@@ -1,4 +1,5 @@
 -- `weighed` adds a net: with at most 999,999 verdicts the sums stay within 64 bits. Assumes nothing.
+use borrow.Author.Needs.{needs}
 use mathlib.Core.Path.{_≡_}
 use Prim.Native.Nat.{_+_, _*_, _≤_, _<_, _^_}
 use native.Mathlib.Omega.{arith}
@@ -9,20 +10,19 @@ use mir.Val.{SFits}
 use Rattle.weight.proofs.Signed.{back, add-fits, add-back}
 use Rattle.tally.specs.Tally.{weighedWith}
 use Rattle.tally.proofs.Facts.{square-le}
-use borrow.Author.Needs.{needs}
 use Rattle.tally.proofs.tally.Tally.weighed.Statement.{statement}
 use Rattle.tally.proofs.tally.Tally.weighed.Tie as tie
 
 sum-fits : (c : tie.After-struct-told) → SFits w64 (c .before .before .before .before .before .before .args .self .sum)
 sum-fits c = record { sfits = c .struct-told .given .1 .1 .1 .1 .1 .1 .1 .1 .1 .0 .1 }
 
-room : (c : tie.After-struct-told) → natAbs (c .before .before .before .before .before .before .args .self .sum) + natAbs (c .before .before .before .before .before .before .args .net) < 2 ^ 63
+room : (c : tie.After-struct-told) → let a = c .before .before .before .before .before .before .args in natAbs (a .self .sum) + natAbs (a .net) < 2 ^ 63
 room c = let p = c .before .before .before .before .before .before .pre in omega (arith, p .0 .sum, p .0 .n, p .1)
 
 size-is : (c : tie.After-struct-told) → c .before .before .before .size .result ≡ natAbs (c .before .before .before .before .before .before .args .net)
 size-is c = rw (toZ-ofZ (c .before .before .before .before .before .before .fits .net)) at (c .before .before .before .size .ensures)
 
-square : (c : tie.After-struct-told) → c .before .before .before .size .result * c .before .before .before .size .result ≤ 999998000001
+square : (c : tie.After-struct-told) → let m = c .before .before .before .size .result in m * m ≤ 999998000001
 square c = square-le (c .before .before .before .size .result) (omega (arith, size-is c, c .before .before .before .before .before .before .pre .1))
 
 larger-requires : tie.Need-larger-requires

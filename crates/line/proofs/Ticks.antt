@@ -21,22 +21,22 @@ use Rattle.device.specs.Foreign.{flagUsed}
 use Rattle.event.specs.declared.Sample.{Sample}
 use Rattle.event.proofs.Facts.{timers, InRange}
 use Rattle.tally.specs.Tally.{isGrade}
 use Rattle.line.specs.Line.{stopped, running, paused, emergency, noError, isRunning, inHand, busy, withStatus, withForeign, withItem}
 use Rattle.line.specs.Fit.{errorKnown, itemFit}
 use Rattle.line.specs.Effect.{bit, plain, halted, halting}
 use Rattle.line.specs.Verdict.{sortedFor, stoppedFor, given, orCrash, verdictOf, judged}
 use Rattle.line.specs.Sample.{step1, step2, step3, step4, step5, step6, step7, weighed, afterWeighing, newItem, detecting, runningTick, guarded, fromStep3, sampled, foreignRises, edgeMade}
 use Rattle.line.specs.Command.{ran, stopping, alarmed}
 use Rattle.line.specs.declared.line.Line.{Line}
 use Rattle.line.specs.declared.effect.Effect.{Effect}
 use Rattle.line.specs.declared.item.Item.the-variants.{None}
 use Rattle.line.specs.declared.item.Weighed.{Weighed}
 use Rattle.line.specs.declared.item.Weighed.the-variants.{Still, Mean}
 use Rattle.line.proofs.Facts.{FitLine}
-use Rattle.book.proofs.Level as level
-use Rattle.book.proofs.Level.{Level, Judged, grade-judged, crash-judged}
-use Rattle.book.proofs.Keeps.{Running, running-status, error-none, with-item, with-foreign, with-paused, fit-step1, fit-step4, fit-step5, fit-sorted, fit-stopped, fit-stop, fit-emergency}
+use Rattle.line.proofs.Moves as moves
+use Rattle.line.proofs.Moves.{Moves, Judged, grade-judged, foreign-judged, crash-judged}
+use Rattle.line.proofs.Keeps.{Running, running-status, error-none, with-item, with-foreign, with-paused, fit-step1, fit-step4, fit-step5, fit-sorted, fit-stopped, fit-stop, fit-emergency}
 use Rattle.line.proofs.Items.{Weighs, still, mean, weighing, new-fit, new-in-hand}
 
 abbrev pub hand : Line → ℕ
 hand l = bit (inHand (l .item))
@@ -46,7 +46,7 @@ pub record Went (l : Line) (e : Effect) : Type 0 where
   pub fit : FitLine (e .line)
   pub code : e .line .code ≡ l .code
   pub undo : e .line .undo ≡ l .undo
-  pub boxes : Level (hand l) (e .detected) (e .outcome) (hand (e .line))
+  pub boxes : Moves (hand l) (e .detected) (e .outcome) (hand (e .line))
   pub net : isWeight (e .net) ≡ true
 
 pub to-running : (l : Line) → FitLine l → isRunning l ≡ true → Running l
@@ -130,7 +130,7 @@ verdict-ends l a net r w n =
     if-ind (Ends l) (l .foreign .flag) _ _
     (λ _. judged-ends l (withForeign k (flagUsed (l .foreign))) (orCrash k 6) net
     (with-foreign k (flagUsed (l .foreign)) r (r .fit .delay)) refl refl refl w
-    (crash-judged k 6 (record { one = refl; not7 = refl; not9 = refl; not10 = refl; not0 = refl })) n)
+    (crash-judged k 6 foreign-judged) n)
     (λ _. judged-ends l k (orCrash k (gradeOf a net)) net r refl refl refl w (crash-judged k (gradeOf a net) (grade-judged a net)) n)
 
 mean-ends : (l : Line) (a : Settings) (m : ℤ) → Running (withItem l None) → inHand (l .item) ≡ true → recordFit a ≡ true → isWeight m ≡ true → Ends l (judged (withItem l None) a m)
@@ -160,12 +160,12 @@ two-on-goes l e s h =
     let g = gives (withItem (e .line) None) 1 7 (pos 0) (with-item (e .line) None (s .run) refl) refl in
     record {
       fit = g .fit; code = g .code ∙ s .code; undo = g .undo ∙ s .undo;
-      boxes = rw (sym (s .same) ∙ h, g .detected, g .outcome, g .item) level.two-on;
+      boxes = rw (sym (s .same) ∙ h, g .detected, g .outcome, g .item) moves.two-on;
       net = g .net;
     }
 
 -- a new item after step 6
-begun : (l k : Line) → Running k → k .code ≡ l .code → k .undo ≡ l .undo → (d o : ℕ) (x : ℤ) → d ≡ 1 → isWeight x ≡ true → Level (hand l) 1 o 1 → Went l (record { line = withItem k (newItem (k .setup)); detected = d; outcome = o; net = x })
+begun : (l k : Line) → Running k → k .code ≡ l .code → k .undo ≡ l .undo → (d o : ℕ) (x : ℤ) → d ≡ 1 → isWeight x ≡ true → Moves (hand l) 1 o 1 → Went l (record { line = withItem k (newItem (k .setup)); detected = d; outcome = o; net = x })
 begun l k r c u d o x e n v =
     record {
       fit = with-item k (newItem (k .setup)) r (new-fit (k .setup) (timers (k .setup) (r .fit .setup))) .fit;
@@ -177,27 +177,27 @@ unfolding detecting
 stays-detecting l e s =
     if-ind (Went l) (inHand (e .line .item)) _ _
     (λ h. two-on-goes l e s h)
-    (λ h. begun l (e .line) (s .run) (s .code) (s .undo) 1 (e .outcome) (e .net) refl (s .net) (rw (sym (s .same) ∙ h, s .outcome) level.detected))
+    (λ h. begun l (e .line) (s .run) (s .code) (s .undo) 1 (e .outcome) (e .net) refl (s .net) (rw (sym (s .same) ∙ h, s .outcome) moves.detected))
 
 ends-detecting : (l : Line) (e : Effect) → Ends l e → isRunning (e .line) ≡ true → Went l (detecting e)
 unfolding detecting
 ends-detecting l e s h =
     rw (s .none)
     (begun l (e .line) (to-running (e .line) (s .fit) h) (s .code) (s .undo) 1 (e .outcome) (e .net) refl (s .net)
-    (rw (s .was) (⊎-elim (λ j. level.judged-next (e .outcome) j) (λ z. rw z level.dismissed-next) (s .outcome))))
+    (rw (s .was) (⊎-elim (λ j. moves.judged-next (e .outcome) j) (λ z. rw z moves.dismissed-next) (s .outcome))))
 
 stays-went : (l : Line) (e : Effect) → Stays l e → Went l e
 stays-went l e s =
     record {
       fit = s .run .fit; code = s .code; undo = s .undo;
-      boxes = rw (s .detected, s .outcome, s .same) (level.still (hand l)); net = s .net;
+      boxes = rw (s .detected, s .outcome, s .same) (moves.still (hand l)); net = s .net;
     }
 
 ends-went : (l : Line) (e : Effect) → Ends l e → Went l e
 ends-went l e s =
     record {
       fit = s .fit; code = s .code; undo = s .undo;
-      boxes = rw (s .was, s .detected, s .none) (⊎-elim (λ j. level.judged (e .outcome) j) (λ z. rw z level.dismissed) (s .outcome));
+      boxes = rw (s .was, s .detected, s .none) (⊎-elim (λ j. moves.judged (e .outcome) j) (λ z. rw z moves.dismissed) (s .outcome));
       net = s .net;
     }
 
@@ -223,16 +223,16 @@ tick-goes l a gross rises made r f g =
     (seven k (step6 k a gross) made (six k a gross (fit-step5 (step4 l) rises (fit-step4 l r)) f g))
 
 pub plain-goes : (l k : Line) → FitLine k → k .code ≡ l .code → k .undo ≡ l .undo → k .item ≡ l .item → Went l (plain k)
-plain-goes l k f c u i = record { fit = f; code = c; undo = u; boxes = rw i (level.still (hand l)); net = refl }
+plain-goes l k f c u i = record { fit = f; code = c; undo = u; boxes = rw i (moves.still (hand l)); net = refl }
 
 halting-goes : (l : Line) (s : ℕ) → FitLine (halted l s) → Went l (halting l s)
 unfolding halting halted
 halting-goes l s f =
     record { fit = f; code = refl; undo = refl; boxes = all (inHand (l .item)); net = refl }
   where
-    all : (b : Bool) → Level (bit b) 0 (if b then 10 else 0) 0
-    all true = level.abandoned
-    all false = level.still 0
+    all : (b : Bool) → Moves (bit b) 0 (if b then 10 else 0) 0
+    all true = moves.abandoned
+    all false = moves.still 0
 
 guarded-goes : (l : Line) (a : Settings) (gross : ℤ) (rises made : Bool) → FitLine l → recordFit a ≡ true → isWeight gross ≡ true → Went l (guarded l a gross rises made)
 unfolding guarded

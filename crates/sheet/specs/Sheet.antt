@@ -1,0 +1,38 @@
+-- 01, "The sheet's figures": what is printed of a code's tally.
+use Prim.Native.Nat.{ℕ, _-_, _*_}
+use mathlib.Core.Bool.{Bool, _&&_}
+use lib.Dec.{leb, eqb}
+use lib.IntN.{ℤ, natAbs, _-ℤ_}
+use Rattle.weight.specs.Choice.{if_then_else_}
+use Rattle.weight.specs.Mean.{rounded, meanOf}
+use Rattle.weight.specs.declared.Figure.{Figure}
+use Rattle.weight.specs.declared.Figure.the-variants.{None, Of}
+use Rattle.spread.specs.Figures.{sdOf, sdpOf}
+use Rattle.tally.specs.Tally.{total, tallyFit}
+use Rattle.tally.specs.declared.tally.Tally.{Tally}
+use Rattle.sheet.specs.declared.sheet.Sheet.{Sheet}
+
+-- "for a report S² ≤ n·Q"
+unfoldable pub reportFit : Tally → Bool
+reportFit t = tallyFit t && leb (natAbs (t .sum) * natAbs (t .sum)) (t .n * t .squares)
+
+-- "For n = 0 max, min, mean, deviation and sdp are none"
+abbrev pub unlessNone : Tally → ℤ → Figure
+unlessNone t x = if eqb (t .n) 0 then None else Of x
+
+-- "Total is all eight counts, ng is total less OK. Mean is S/n, rounded as m; deviation is mean less target, signed."
+unfoldable pub sheetOf : Tally → ℤ → Sheet
+sheetOf t target =
+    record {
+      total = total t;
+      ng = total t - t .ok;
+      lolo = t .lolo; lo = t .lo; ok = t .ok; hi = t .hi; hihi = t .hihi;
+      foreign = t .foreign; double = t .double; crash = t .crash;
+      max = unlessNone t (t .largest);
+      min = unlessNone t (t .smallest);
+      sum = t .sum;
+      mean = meanOf (t .sum) (t .n);
+      deviation = unlessNone t (rounded (t .sum) (t .n) -ℤ target);
+      sd = sdOf (t .n) (t .squares) (natAbs (t .sum));
+      sdp = sdpOf (t .n) (t .squares) (natAbs (t .sum));
+    }
