@@ -32,6 +32,8 @@ use Rattle.line.specs.declared.line.Undo.{Undo}
 use Rattle.line.specs.declared.line.Undo.the-variants.{Nothing, Kept}
 use Rattle.line.specs.declared.line.Line.{Line}
 use Rattle.line.specs.declared.effect.Effect.{Effect}
+use Rattle.line.specs.declared.reply.Reply.{Reply}
+use Rattle.line.specs.declared.reply.Reply.the-variants.{Refused, Done}
 use Rattle.line.proofs.Facts.{FitLine, fit-tells, tells-fit}
 use Rattle.line.proofs.Accepted.{Accepted, accepted-tells}
 use Rattle.book.specs.Book as book
@@ -203,8 +205,16 @@ not-eight l count a ts e h =
     Other n = n ≢ 8
 
 -- an accepted event's reply is no refusal
+abbrev pub isDone : Reply → Bool
+isDone (Refused number input) = false
+isDone (Done d) = true
+
 abbrev NoRefusal : Out → Type 0
-NoRefusal o = refusalIn (o .reply) ≡ 0
+NoRefusal o = isDone (o .reply) ≡ true
+
+no-refusal : (r : Reply) → isDone r ≡ true → refusalIn r ≡ 0
+no-refusal (Refused number input) h = absurd (subst T (sym h) tt)
+no-refusal (Done d) h = refl
 
 untallied-done : (x : Effect) (ts : List ℤ) → NoRefusal (untallied x ts)
 unfolding replied
@@ -222,7 +232,7 @@ unfolding cancelled
 cancelled-done l ts Nothing = untallied-done (plain l) ts
 cancelled-done l ts (Kept t) = untallied-done (plain (withUndo l Nothing)) (withTally ts (l .code) t)
 
-accepted-done : (l : Line) (a : Settings) (ts : List ℤ) (e : Event) → NoRefusal (accepted l a ts e)
+pub accepted-done : (l : Line) (a : Settings) (ts : List ℤ) (e : Event) → isDone (accepted l a ts e .reply) ≡ true
 unfolding accepted replied
 accepted-done l a ts (Sample s) = recorded-done (sampled l a s) ts
 accepted-done l a ts Run = refl
@@ -243,7 +253,7 @@ unfolding stepOf
 refusal-shown l count a ts e =
     let n = refusalOf l count a ts e in
     if-ind (λ (o : Out). refusalIn (o .reply) ≡ n) (eqb n 0) _ _
-    (λ z. accepted-done l a ts e ∙ sym (eqb-true n 0 z))
+    (λ z. no-refusal (accepted l a ts e .reply) (accepted-done l a ts e) ∙ sym (eqb-true n 0 z))
     (λ _. refl)
 
 cancel-answer : (l : Line) (count : ℕ) (a : Settings) (ts : List ℤ) → memorySound l count a ts Cancel ≡ true → refusalOf l count a ts Cancel ≡ (if chanceOf (l .undo) then 0 else 7)

@@ -1,2 +1,5 @@
 pub mod Sheet
 pub mod Report
+pub mod Steps
+pub mod Apart
+pub mod Bench

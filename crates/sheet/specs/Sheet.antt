@@ -1,5 +1,5 @@
 -- 01, "The sheet's figures": what is printed of a code's tally.
-use Prim.Native.Nat.{ℕ, _-_, _*_}
+use Prim.Native.Nat.{_-_, _*_}
 use mathlib.Core.Bool.{Bool, _&&_}
 use lib.Dec.{leb, eqb}
 use lib.IntN.{ℤ, natAbs, _-ℤ_}
@@ -26,8 +26,14 @@ sheetOf t target =
     record {
       total = total t;
       ng = total t - t .ok;
-      lolo = t .lolo; lo = t .lo; ok = t .ok; hi = t .hi; hihi = t .hihi;
-      foreign = t .foreign; double = t .double; crash = t .crash;
+      lolo = t .lolo;
+      lo = t .lo;
+      ok = t .ok;
+      hi = t .hi;
+      hihi = t .hihi;
+      foreign = t .foreign;
+      double = t .double;
+      crash = t .crash;
       max = unlessNone t (t .largest);
       min = unlessNone t (t .smallest);
       sum = t .sum;

@@ -1,0 +1,100 @@
+-- `replay` is the fold: after i turns the plant and its tallies are those of the first i events. The claim holds of it. Assumes nothing.
+use borrow.Author.Needs.{needs}
+use mathlib.Core.Path.{_≡_, refl, sym, ap, _∙_}
+use Prim.Native.Nat.{ℕ, _-_, _≤_}
+use native.Mathlib.Omega.{arith}
+use lib.IntN.{pos}
+use lib.ListN.{length, length-replicate}
+use lib.Seq.{take-all}
+use Rattle.event.specs.declared.Event.{Event}
+use Rattle.event.specs.declared.Event.the-variants.{Sample}
+use Rattle.tally.specs.Memory.{talliesLength, zeros}
+use Rattle.book.specs.Run.{runFrom, run}
+use Rattle.book.proofs.Every.{claim}
+use Rattle.replay.proofs.Fold.{After, turned-after}
+use Rattle.replay.proofs.replay.Statement.{statement}
+use Rattle.replay.proofs.replay.Tie as tie
+
+abbrev Inv-loop : tie.InvT-loop
+Inv-loop tallies₀ events plant₀ i₀ tallies plant i =
+    (i ≤ 64) × (length events ≡ 64) × (length tallies ≡ length tallies₀) × After plant₀ tallies₀ events i plant tallies
+
+abbrev μ-loop : tie.MeasureT-loop
+μ-loop tallies₀ events plant₀ i₀ tallies plant i = 64 - i
+
+clear-requires : tie.Need-clear-requires Inv-loop μ-loop
+clear-requires c κs = search needs
+
+fresh-requires : tie.Need-fresh-requires Inv-loop μ-loop
+fresh-requires c κs = search needs
+
+loop-holds : tie.Need-loop-holds Inv-loop μ-loop
+unfolding runFrom
+loop-holds c = (omega arith, search needs, refl, record { plant = refl; tallies = refl })
+
+mul-e : tie.Need-mul-e Inv-loop μ-loop
+mul-e c = omega arith
+
+array-copy-out-e : tie.Need-array-copy-out-e Inv-loop μ-loop
+array-copy-out-e c = omega arith
+
+turn-requires : tie.Need-turn-requires Inv-loop μ-loop
+turn-requires c κs = search needs
+
+add-i : tie.Need-add-i Inv-loop μ-loop
+add-i c = omega arith
+
+loop-less : tie.Need-loop-less Inv-loop μ-loop
+loop-less c = omega arith
+
+-- what is read past the end of an array
+abbrev none : Event
+none = Sample (record { gross = pos 0; sensor = 0; emergency = 0; safety = 0; foreign = 0 })
+
+loop-again : tie.Need-loop-again Inv-loop μ-loop
+loop-again c =
+    let t = c .before .before .turn in
+    let l = c .before .before .before .before .before .before .loop in
+    let n : length (t .last .1 .0) ≡ length (l .tallies) = search needs in
+    let es = c .before .before .before .before .before .before .before .before .before .before .before .args .t2 in
+    let plant₀ = c .before .before .before .before .before .before .before .fresh .result in
+    let tallies₀ = c .before .before .before .before .before .before .before .before .before .clear .last .0 in
+    (omega arith, l .inv .1, n ∙ l .inv .2,
+    turned-after plant₀ tallies₀ es (l .i) none (l .plant) (l .tallies) (l .inv .3) (omega arith) (t .result) (t .last .1 .0) (t .ensures .0) (t .ensures .1))
+
+length-zeros : (n : ℕ) → length (zeros n) ≡ n
+unfolding zeros
+length-zeros n = length-replicate n (pos 0)
+
+same-length : tie.Need-same-length Inv-loop μ-loop
+same-length c =
+    let n = ap length (c .before .before .before .before .clear .ensures) ∙ length-zeros (length (c .before .before .before .before .before .before .args .tallies .now)) in
+    omega (arith, n, c .before .loop .inv .2)
+
+returns : tie.Need-returns Inv-loop μ-loop
+unfolding run
+returns c =
+    let l = c .before .loop in
+    let es = c .before .before .before .before .before .before .args .t2 in
+    let all = take-all (l .i) es (omega arith) in
+    let fresh = c .before .before .fresh .ensures in
+    let clear = c .before .before .before .before .clear .ensures in
+    (rw (all, fresh, clear) at (l .inv .3 .plant), (rw (all, fresh, clear) at (l .inv .3 .tallies), λ h. rw h (claim es)))
+
+pub replay-spec : {M : Type 1} → statement M
+replay-spec =
+    tie.close
+    (tie.spec
+    Inv-loop
+    μ-loop
+    clear-requires
+    fresh-requires
+    loop-holds
+    mul-e
+    array-copy-out-e
+    turn-requires
+    add-i
+    loop-less
+    loop-again
+    same-length
+    returns)
