@@ -64,8 +64,15 @@ with-code : (l : Line) (c : ℕ) → FitLine l → leb c 99 ≡ true → FitLine
 unfolding statusFit busy
 with-code l c f h =
     record {
-      code = h; setup = f .setup; last = f .last; sensor = f .sensor; status = f .status;
-      sorter = f .sorter; delay = f .delay; item = f .item; undo = nothing-fit;
+      code = h;
+      setup = f .setup;
+      last = f .last;
+      sensor = f .sensor;
+      status = f .status;
+      sorter = f .sorter;
+      delay = f .delay;
+      item = f .item;
+      undo = nothing-fit;
     }
 
 no-error : (l : Line) → FitLine l → FitLine (withStatus l (l .status) noError)
@@ -76,9 +83,15 @@ no-error l f =
     let b = both (leb (l .status) 3 && errorKnown (l .error)) (eqb (l .status) paused || eqb (l .error) noError) (a .0) in
     let c = both (leb (l .status) 3) (errorKnown (l .error)) (b .0) in
     record {
-      code = f .code; setup = f .setup; last = f .last; sensor = f .sensor;
+      code = f .code;
+      setup = f .setup;
+      last = f .last;
+      sensor = f .sensor;
       status = and-intro (and-intro (and-intro (c .0) refl) (or-true (eqb (l .status) paused))) (a .1);
-      sorter = f .sorter; delay = f .delay; item = f .item; undo = f .undo;
+      sorter = f .sorter;
+      delay = f .delay;
+      item = f .item;
+      undo = f .undo;
     }
 
 -- a stopped line has nothing in hand, so any setup fits it
@@ -103,8 +116,15 @@ with-setup : (l : Line) (s : setup.Setup) → FitLine l → setupFit s ≡ true 
 unfolding statusFit busy
 with-setup l s f h z =
     record {
-      code = f .code; setup = h; last = f .last; sensor = f .sensor; status = f .status;
-      sorter = f .sorter; delay = f .delay; item = item-none (l .item) s (stopped-empty l (f .status) z); undo = f .undo;
+      code = f .code;
+      setup = h;
+      last = f .last;
+      sensor = f .sensor;
+      status = f .status;
+      sorter = f .sorter;
+      delay = f .delay;
+      item = item-none (l .item) s (stopped-empty l (f .status) z);
+      undo = f .undo;
     }
 
 -- ---- commands to the book
@@ -119,7 +139,13 @@ command-goes : (l k : Line) (ts : List ℤ) (f g : Pages) (e : Event) → book.c
 unfolding book.noted replied talliedBy
 command-goes l k ts f g e c fit s b i =
     record {
-      pages = g; book = c; line = fit; sheets = s; back = b; tallied = refl; boxes = rw i (moves.still (hand l));
+      pages = g;
+      book = c;
+      line = fit;
+      sheets = s;
+      back = b;
+      tallied = refl;
+      boxes = rw i (moves.still (hand l));
     }
 
 last-off : (p : List Verdict) → Page p → Page (lastOff p)

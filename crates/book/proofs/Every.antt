@@ -92,7 +92,13 @@ refused-goes : (l : Line) (ts : List ℤ) (f : Pages) (e : Event) (n : ℕ) → 
 unfolding book.noted talliedBy
 refused-goes l ts f e n g =
     record {
-      pages = f; book = refl; line = g .fit; sheets = g .sheets; back = g .back; tallied = refl; boxes = moves.still (hand l);
+      pages = f;
+      book = refl;
+      line = g .fit;
+      sheets = g .sheets;
+      back = g .back;
+      tallied = refl;
+      boxes = moves.still (hand l);
     }
 
 answer-goes : (w : World) (e : Event) (h : Holds w) → Goes (w .line) (h .pages) e (answer w e)
@@ -163,9 +169,12 @@ fresh-holds : Holds freshWorld
 unfolding bookOf sumOver inHandAfter freshLine
 fresh-holds =
     record {
-      pages = λ _. []; book = refl;
+      pages = λ _. [];
+      book = refl;
       given = record { fit = fresh-fit; sheets = zero-sheets; back = tt };
-      records = fresh-records; balance = refl; item = refl;
+      records = fresh-records;
+      balance = refl;
+      item = refl;
     }
 
 holds-from : (w : World) (es : List Event) → Holds w → Holds (runFrom w es)

@@ -27,8 +27,19 @@ use Rattle.book.specs.Page.{countOf, netsOf, sumOf, squaresOf, largestFr
 abbrev from : (p : List Verdict) → ℕ → ℤ → ℕ → ℤ → ℤ → Tally
 from p n s q a b =
     record {
-      lolo = countOf 1 p; lo = countOf 2 p; ok = countOf 3 p; hi = countOf 4 p; hihi = countOf 5 p;
-      foreign = countOf 6 p; double = countOf 7 p; crash = countOf 8 p; n = n; sum = s; squares = q; largest = a; smallest = b;
+      lolo = countOf 1 p;
+      lo = countOf 2 p;
+      ok = countOf 3 p;
+      hi = countOf 4 p;
+      hihi = countOf 5 p;
+      foreign = countOf 6 p;
+      double = countOf 7 p;
+      crash = countOf 8 p;
+      n = n;
+      sum = s;
+      squares = q;
+      largest = a;
+      smallest = b;
     }
 
 same-from : (p : List Verdict) (n n′ : ℕ) (s : ℤ) (q : ℕ) (a a′ b b′ : ℤ) → n ≡ n′ → a ≡ a′ → b ≡ b′ → from p n s q a b ≡ from p n′ s q a′ b′
@@ -50,11 +61,13 @@ page-more v p = go (within 1 5 (v .outcome)) refl
   where
     xs : List ℤ
     xs = netsOf p
+
     Goal : Bool → Type 0
     Goal b =
         from (v ∷ p) (length (if b then v .net ∷ xs else xs)) (sumOf (if b then v .net ∷ xs else xs)) (squaresOf (if b then v .net ∷ xs else xs))
         (largestOf (if b then v .net ∷ xs else xs)) (smallestOf (if b then v .net ∷ xs else xs))
         ≡ (if b then weighedWith (countedWith (tallyOfPage p) (v .outcome)) (v .net) else countedWith (tallyOfPage p) (v .outcome))
+
     go : (b : Bool) → within 1 5 (v .outcome) ≡ b → Goal (within 1 5 (v .outcome))
     go true e =
         rw e (same-from (v ∷ p) (suc (length xs)) (length xs + 1) (sumOf xs +ℤ v .net) (squaresOf xs + natAbs (v .net) * natAbs (v .net))

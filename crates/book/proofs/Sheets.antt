@@ -115,8 +115,11 @@ quiet l ts f e x w s b v c =
     record {
       pages = f;
       book = rw (v, c (beside l f)) (beside-same l (x .line) f (w .code) (w .undo));
-      line = w .fit; sheets = s; back = back-same l (x .line) f (w .code) (w .undo) b;
-      tallied = rw v; boxes = w .boxes;
+      line = w .fit;
+      sheets = s;
+      back = back-same l (x .line) f (w .code) (w .undo) b;
+      tallied = rw v;
+      boxes = w .boxes;
     }
 
 -- ---- a verdict
@@ -129,8 +132,15 @@ pub with-undo : (k : Line) (u : Undo) → FitLine k → undoFit u ≡ true → F
 unfolding statusFit busy
 with-undo k u f h =
     record {
-      code = f .code; setup = f .setup; last = f .last; sensor = f .sensor; status = f .status;
-      sorter = f .sorter; delay = f .delay; item = f .item; undo = h;
+      code = f .code;
+      setup = f .setup;
+      last = f .last;
+      sensor = f .sensor;
+      status = f .status;
+      sorter = f .sorter;
+      delay = f .delay;
+      item = f .item;
+      undo = h;
     }
 
 -- the reply shows the effect
@@ -184,7 +194,7 @@ verdict-goes l ts f e x w s v =
     if-ind (Goes l f e) (hasRoom t) _ _
     (λ h. let place = sym room ∙ h in
     let page : Page (verdict x ∷ p) =
-          record { fine = more (record { outcome = v; net = w .net }) (s .pages c .fine); few = omega (arith, ltb-true (length p) 999999 place) } in
+    record { fine = more (record { outcome = v; net = w .net }) (s .pages c .fine); few = omega (arith, ltb-true (length p) 999999 place) } in
     record {
       pages = turned f c (verdict x ∷ p);
       book = subst (λ (b : Book). book.noted b e (replied x 1) ≡ beside (withUndo k (Kept t)) (turned f c (verdict x ∷ p))) same (entered-room k f e x 1 v place);
@@ -199,7 +209,8 @@ verdict-goes l ts f e x w s v =
       pages = f;
       book = subst (λ (b : Book). book.noted b e (replied x 0) ≡ beside (withUndo k Nothing) f) same (entered-full k f e x 0 v full);
       line = with-undo k Nothing (w .fit) nothing-fit;
-      sheets = s; back = tt;
+      sheets = s;
+      back = tt;
       tallied = shown-tallied x 0 ∙ sym (subst (λ (b : Book). talliedBy b (replied x 0) ≡ 0) same (tallied-by k f x 0 false v full));
       boxes = shown x 0 k (w .boxes);
     })

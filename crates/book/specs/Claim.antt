@@ -32,8 +32,8 @@ pub record Stands (w : World) : Type 0 where
   pub tallies : (code : ℕ) → code ≤ 99 → tallyAt (w .tallies) code ≡ tallyOfPage (bookOf (w .history) .pages code)
   -- "detected = judged + two-on + dismissed + abandoned + in hand"
   pub balance :
-    detectedIn (w .history)
-    ≡ judgedIn (w .history) + 2 * outcomesIn 7 (w .history) + outcomesIn 9 (w .history) + outcomesIn 10 (w .history) + inHandAfter (w .history)
+      detectedIn (w .history)
+      ≡ judgedIn (w .history) + 2 * outcomesIn 7 (w .history) + outcomesIn 9 (w .history) + outcomesIn 10 (w .history) + inHandAfter (w .history)
   -- "the line's item is none exactly at 0"
   pub item : bit (inHand (w .line .item)) ≡ inHandAfter (w .history)
   -- "Tallied is 1 exactly when a verdict was put on a page"

@@ -50,8 +50,17 @@ smallestOf (x ∷ xs) = smallestFrom x xs
 unfoldable pub tallyOfPage : List Verdict → Tally
 tallyOfPage p =
     record {
-      lolo = countOf 1 p; lo = countOf 2 p; ok = countOf 3 p; hi = countOf 4 p; hihi = countOf 5 p;
-      foreign = countOf 6 p; double = countOf 7 p; crash = countOf 8 p;
-      n = length (netsOf p); sum = sumOf (netsOf p); squares = squaresOf (netsOf p);
-      largest = largestOf (netsOf p); smallest = smallestOf (netsOf p);
+      lolo = countOf 1 p;
+      lo = countOf 2 p;
+      ok = countOf 3 p;
+      hi = countOf 4 p;
+      hihi = countOf 5 p;
+      foreign = countOf 6 p;
+      double = countOf 7 p;
+      crash = countOf 8 p;
+      n = length (netsOf p);
+      sum = sumOf (netsOf p);
+      squares = squaresOf (netsOf p);
+      largest = largestOf (netsOf p);
+      smallest = smallestOf (netsOf p);
     }

@@ -42,8 +42,11 @@ timers s h =
     let tc = both (within 1 2 (s .mode) && within 1 2 (s .edge)) (leb (s .tc) 9999) (tw .0) in
     let ta-both = both (leb 1 (s .ta)) (leb (s .ta) 9999) (ta .1) in
     record {
-      tc = leb-true _ _ (tc .1); tw = leb-true _ _ (tw .1); tf = leb-true _ _ (tf .1);
-      some = leb-true _ _ (ta-both .0); ta = leb-true _ _ (ta-both .1);
+      tc = leb-true _ _ (tc .1);
+      tw = leb-true _ _ (tw .1);
+      tf = leb-true _ _ (tf .1);
+      some = leb-true _ _ (ta-both .0);
+      ta = leb-true _ _ (ta-both .1);
       ts = leb-true _ _ (both (leb 1 (s .ts)) (leb (s .ts) 9999) (ts .1) .1);
       to = leb-true _ _ (both (leb 1 (s .to)) (leb (s .to) 9999) (to .1) .1);
     }

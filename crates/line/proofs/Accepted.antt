@@ -47,8 +47,13 @@ accepted-tells l count a ts e h =
     let r6 = passed (runOccupied l a e) 5 _ (r5 .1) in
     let r7 = passed (nothingToCancel l e) 6 _ (r6 .1) in
     record {
-      sound = not-false _ (r8 .0); ranged = not-false _ (r2 .0); status = r3 .0; agrees = not-false _ (r4 .0);
-      safe = r5 .0; free = r6 .0; chance = r7 .0;
+      sound = not-false _ (r8 .0);
+      ranged = not-false _ (r2 .0);
+      status = r3 .0;
+      agrees = not-false _ (r4 .0);
+      safe = r5 .0;
+      free = r6 .0;
+      chance = r7 .0;
     }
 
 -- the memory is sound
@@ -67,7 +72,11 @@ sound-tells l count a ts e h =
     let f = both (eqb count settingsLength && eqb (length ts) talliesLength) (lineFit l) (r .0) in
     let n = both (eqb count settingsLength) (eqb (length ts) talliesLength) (f .0) in
     record {
-      records = eqb-true _ _ (n .0); tallies = eqb-true _ _ (n .1); line = f .1; active = r .1; tally = t .1;
+      records = eqb-true _ _ (n .0);
+      tallies = eqb-true _ _ (n .1);
+      line = f .1;
+      active = r .1;
+      tally = t .1;
     }
 
 -- ---- what an accepted event of each kind gives to its method

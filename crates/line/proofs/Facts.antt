@@ -32,7 +32,15 @@ fit-tells l h =
     let g = both _ (lastFit (l .last)) (f .0) in
     let k = both _ (setupFit (l .setup)) (g .0) in
     record {
-      code = k .0; setup = k .1; last = g .1; sensor = f .1; status = e .1; sorter = d .1; delay = c .1; item = b .1; undo = a .1;
+      code = k .0;
+      setup = k .1;
+      last = g .1;
+      sensor = f .1;
+      status = e .1;
+      sorter = d .1;
+      delay = c .1;
+      item = b .1;
+      undo = a .1;
     }
 
 pub tells-fit : (l : Line) → FitLine l → lineFit l ≡ true

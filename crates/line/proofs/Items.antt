@@ -59,7 +59,8 @@ averages k sum gross s h g =
     let a = both (within 1 (s .ta) k) (leb (natAbs sum) (999999 * (s .ta - k))) h in
     let b = both (leb 1 k) (leb k (s .ta)) (a .0) in
     record {
-      some = leb-true _ _ (b .0); most = leb-true _ _ (b .1);
+      some = leb-true _ _ (b .0);
+      most = leb-true _ _ (b .1);
       sizes = omega (arith, leb-true (natAbs sum) (999999 * (s .ta - k)) (a .1), leb-true (natAbs gross) 999999 g);
       total = omega (arith, abs-add sum gross, leb-true (natAbs sum) (999999 * (s .ta - k)) (a .1), leb-true (natAbs gross) 999999 g);
     }

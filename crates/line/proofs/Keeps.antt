@@ -55,41 +55,68 @@ pub with-item : (l : Line) (i : Item) → Running l → itemFit i (l .setup) ≡
 with-item l i r h =
     record {
       fit = record {
-        code = r .fit .code; setup = r .fit .setup; last = r .fit .last; sensor = r .fit .sensor;
+        code = r .fit .code;
+        setup = r .fit .setup;
+        last = r .fit .last;
+        sensor = r .fit .sensor;
         status = running-status (withItem l i) (r .status) (r .error);
-        sorter = r .fit .sorter; delay = r .fit .delay; item = h; undo = r .fit .undo;
+        sorter = r .fit .sorter;
+        delay = r .fit .delay;
+        item = h;
+        undo = r .fit .undo;
       };
-      status = r .status; error = r .error;
+      status = r .status;
+      error = r .error;
     }
 
 with-sorter : (l : Line) (s : Sorter) → Running l → sorterFit s ≡ true → Running (withSorter l s)
 with-sorter l s r h =
     record {
       fit = record {
-        code = r .fit .code; setup = r .fit .setup; last = r .fit .last; sensor = r .fit .sensor;
+        code = r .fit .code;
+        setup = r .fit .setup;
+        last = r .fit .last;
+        sensor = r .fit .sensor;
         status = running-status (withSorter l s) (r .status) (r .error);
-        sorter = h; delay = r .fit .delay; item = r .fit .item; undo = r .fit .undo;
+        sorter = h;
+        delay = r .fit .delay;
+        item = r .fit .item;
+        undo = r .fit .undo;
       };
-      status = r .status; error = r .error;
+      status = r .status;
+      error = r .error;
     }
 
 pub with-foreign : (l : Line) (f : Foreign) → Running l → leb (f .delay) 9999 ≡ true → Running (withForeign l f)
 with-foreign l f r h =
     record {
       fit = record {
-        code = r .fit .code; setup = r .fit .setup; last = r .fit .last; sensor = r .fit .sensor;
+        code = r .fit .code;
+        setup = r .fit .setup;
+        last = r .fit .last;
+        sensor = r .fit .sensor;
         status = running-status (withForeign l f) (r .status) (r .error);
-        sorter = r .fit .sorter; delay = h; item = r .fit .item; undo = r .fit .undo;
+        sorter = r .fit .sorter;
+        delay = h;
+        item = r .fit .item;
+        undo = r .fit .undo;
       };
-      status = r .status; error = r .error;
+      status = r .status;
+      error = r .error;
     }
 
 pub with-paused : (l : Line) (e : ℕ) → FitLine l → errorKnown e ≡ true → FitLine (withStatus l paused e)
 with-paused l e f h =
     record {
-      code = f .code; setup = f .setup; last = f .last; sensor = f .sensor;
+      code = f .code;
+      setup = f .setup;
+      last = f .last;
+      sensor = f .sensor;
       status = paused-status (withStatus l paused e) refl h;
-      sorter = f .sorter; delay = f .delay; item = f .item; undo = f .undo;
+      sorter = f .sorter;
+      delay = f .delay;
+      item = f .item;
+      undo = f .undo;
     }
 
 -- ---- the steps that change one part
@@ -131,12 +158,17 @@ unfolding step1 lastFit sensorFit statusFit busy
 fit-step1 l s f r =
     let b = both (leb (l .sensor .level) 1) (leb (l .sensor .run) 9999) (f .sensor) in
     let k = settled-keeps (l .sensor) (l .setup .tc) (s .sensor)
-            (record { level = leb-true _ _ (b .0); run = leb-true _ _ (b .1) }) (timers (l .setup) (f .setup) .tc) (r .sensor) in
+    (record { level = leb-true _ _ (b .0); run = leb-true _ _ (b .1) }) (timers (l .setup) (f .setup) .tc) (r .sensor) in
     record {
-      code = f .code; setup = f .setup;
+      code = f .code;
+      setup = f .setup;
       last = and-intro (and-intro (r .gross) (r .safety)) (r .foreign);
       sensor = and-intro (le-leb _ _ (k .level)) (le-leb _ _ (k .run));
-      status = f .status; sorter = f .sorter; delay = f .delay; item = f .item; undo = f .undo;
+      status = f .status;
+      sorter = f .sorter;
+      delay = f .delay;
+      item = f .item;
+      undo = f .undo;
     }
 
 -- ---- stopped and emergency
@@ -145,8 +177,15 @@ halted-fit : (l : Line) (s : ℕ) → FitLine l → statusFit (halted l s) ≡ t
 unfolding halted itemFit
 halted-fit l s f h =
     record {
-      code = f .code; setup = f .setup; last = f .last; sensor = f .sensor; status = h;
-      sorter = off-fit; delay = f .delay; item = refl; undo = f .undo;
+      code = f .code;
+      setup = f .setup;
+      last = f .last;
+      sensor = f .sensor;
+      status = h;
+      sorter = off-fit;
+      delay = f .delay;
+      item = refl;
+      undo = f .undo;
     }
 
 stopped-status : (l : Line) → statusFit (halted l stopped) ≡ true

@@ -87,8 +87,11 @@ gives l d v net r w =
     let b = stopped-same (sortedFor l v) v in
     record {
       fit = fit-stopped (sortedFor l v) v (fit-sorted l v r .fit);
-      code = b .code ∙ a .code; undo = b .undo ∙ a .undo; item = b .item ∙ a .item;
-      detected = refl; outcome = refl;
+      code = b .code ∙ a .code;
+      undo = b .undo ∙ a .undo;
+      item = b .item ∙ a .item;
+      detected = refl;
+      outcome = refl;
       net = if-ind (λ (x : ℤ). isWeight x ≡ true) (isGrade v) _ _ (λ _. w) (λ _. refl);
     }
 
@@ -119,8 +122,14 @@ judged-ends : (l k : Line) (v : ℕ) (net : ℤ) → Running k → k .code ≡ l
 judged-ends l k v net r c u i w j n =
     let g = gives k 0 v net r n in
     record {
-      fit = g .fit; code = g .code ∙ c; undo = g .undo ∙ u; was = w; none = g .item ∙ i; detected = g .detected;
-      outcome = inl (subst Judged (sym (g .outcome)) j); net = g .net;
+      fit = g .fit;
+      code = g .code ∙ c;
+      undo = g .undo ∙ u;
+      was = w;
+      none = g .item ∙ i;
+      detected = g .detected;
+      outcome = inl (subst Judged (sym (g .outcome)) j);
+      net = g .net;
     }
 
 verdict-ends : (l : Line) (a : Settings) (net : ℤ) → Running (withItem l None) → inHand (l .item) ≡ true → isWeight net ≡ true → Ends l (verdictOf (withItem l None) a net)
@@ -159,7 +168,9 @@ unfolding itemFit
 two-on-goes l e s h =
     let g = gives (withItem (e .line) None) 1 7 (pos 0) (with-item (e .line) None (s .run) refl) refl in
     record {
-      fit = g .fit; code = g .code ∙ s .code; undo = g .undo ∙ s .undo;
+      fit = g .fit;
+      code = g .code ∙ s .code;
+      undo = g .undo ∙ s .undo;
       boxes = rw (sym (s .same) ∙ h, g .detected, g .outcome, g .item) moves.two-on;
       net = g .net;
     }
@@ -169,7 +180,10 @@ begun : (l k : Line) → Running k → k .code ≡ l .code → k .undo ≡ l .un
 begun l k r c u d o x e n v =
     record {
       fit = with-item k (newItem (k .setup)) r (new-fit (k .setup) (timers (k .setup) (r .fit .setup))) .fit;
-      code = c; undo = u; boxes = rw (e, new-in-hand (k .setup)) v; net = n;
+      code = c;
+      undo = u;
+      boxes = rw (e, new-in-hand (k .setup)) v;
+      net = n;
     }
 
 stays-detecting : (l : Line) (e : Effect) → Stays l e → Went l (detecting e)
@@ -189,14 +203,19 @@ ends-detecting l e s h =
 stays-went : (l : Line) (e : Effect) → Stays l e → Went l e
 stays-went l e s =
     record {
-      fit = s .run .fit; code = s .code; undo = s .undo;
-      boxes = rw (s .detected, s .outcome, s .same) (moves.still (hand l)); net = s .net;
+      fit = s .run .fit;
+      code = s .code;
+      undo = s .undo;
+      boxes = rw (s .detected, s .outcome, s .same) (moves.still (hand l));
+      net = s .net;
     }
 
 ends-went : (l : Line) (e : Effect) → Ends l e → Went l e
 ends-went l e s =
     record {
-      fit = s .fit; code = s .code; undo = s .undo;
+      fit = s .fit;
+      code = s .code;
+      undo = s .undo;
       boxes = rw (s .was, s .detected, s .none) (⊎-elim (λ j. moves.judged (e .outcome) j) (λ z. rw z moves.dismissed) (s .outcome));
       net = s .net;
     }
@@ -284,9 +303,15 @@ unfolding ran
 run-goes l f =
     plain-goes l (withStatus l running noError)
     (record {
-      code = f .code; setup = f .setup; last = f .last; sensor = f .sensor;
+      code = f .code;
+      setup = f .setup;
+      last = f .last;
+      sensor = f .sensor;
       status = running-status (withStatus l running noError) refl refl;
-      sorter = f .sorter; delay = f .delay; item = f .item; undo = f .undo;
+      sorter = f .sorter;
+      delay = f .delay;
+      item = f .item;
+      undo = f .undo;
     })
     refl refl refl
 

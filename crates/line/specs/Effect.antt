@@ -24,8 +24,16 @@ dismissed l = record { line = l; detected = 0; outcome = 9; net = pos 0 }
 unfoldable pub halted : Line → ℕ → Line
 halted l s =
     record {
-      status = s; error = noError; code = l .code; setup = l .setup; sensor = l .sensor;
-      last = l .last; foreign = l .foreign; item = None; sorter = sorterOff; undo = l .undo;
+      status = s;
+      error = noError;
+      code = l .code;
+      setup = l .setup;
+      sensor = l .sensor;
+      last = l .last;
+      foreign = l .foreign;
+      item = None;
+      sorter = sorterOff;
+      undo = l .undo;
     }
 
 unfoldable pub halting : Line → ℕ → Effect
@@ -41,6 +49,13 @@ unfoldable pub replied : Effect → ℕ → Reply
 replied e tallied =
     done
     (record {
-      status = e .line .status; busy = bit (busy (e .line)); conveyor = bit (conveyor (e .line)); sorter = bit (sorterOn (e .line));
-      detected = e .detected; outcome = e .outcome; net = e .net; tallied = tallied; error = e .line .error;
+      status = e .line .status;
+      busy = bit (busy (e .line));
+      conveyor = bit (conveyor (e .line));
+      sorter = bit (sorterOn (e .line));
+      detected = e .detected;
+      outcome = e .outcome;
+      net = e .net;
+      tallied = tallied;
+      error = e .line .error;
     })

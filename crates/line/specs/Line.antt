@@ -65,10 +65,16 @@ freshSetup =
 unfoldable pub freshLine : Line
 freshLine =
     record {
-      status = stopped; error = noError; code = 0; setup = freshSetup;
+      status = stopped;
+      error = noError;
+      code = 0;
+      setup = freshSetup;
       sensor = record { level = 0; run = 0 };
       last = record { gross = pos 0; safety = 255; foreign = 0 };
-      foreign = noSignal; item = None; sorter = sorterOff; undo = Nothing;
+      foreign = noSignal;
+      item = None;
+      sorter = sorterOff;
+      undo = Nothing;
     }
 
 -- ---- the line with a part anew
@@ -76,55 +82,119 @@ freshLine =
 abbrev pub withStatus : Line → ℕ → ℕ → Line
 withStatus l s e =
     record {
-      status = s; error = e; code = l .code; setup = l .setup; sensor = l .sensor;
-      last = l .last; foreign = l .foreign; item = l .item; sorter = l .sorter; undo = l .undo;
+      status = s;
+      error = e;
+      code = l .code;
+      setup = l .setup;
+      sensor = l .sensor;
+      last = l .last;
+      foreign = l .foreign;
+      item = l .item;
+      sorter = l .sorter;
+      undo = l .undo;
     }
 
 abbrev pub withCode : Line → ℕ → Line
 withCode l c =
     record {
-      status = l .status; error = l .error; code = c; setup = l .setup; sensor = l .sensor;
-      last = l .last; foreign = l .foreign; item = l .item; sorter = l .sorter; undo = l .undo;
+      status = l .status;
+      error = l .error;
+      code = c;
+      setup = l .setup;
+      sensor = l .sensor;
+      last = l .last;
+      foreign = l .foreign;
+      item = l .item;
+      sorter = l .sorter;
+      undo = l .undo;
     }
 
 abbrev pub withSetup : Line → Setup → Line
 withSetup l s =
     record {
-      status = l .status; error = l .error; code = l .code; setup = s; sensor = l .sensor;
-      last = l .last; foreign = l .foreign; item = l .item; sorter = l .sorter; undo = l .undo;
+      status = l .status;
+      error = l .error;
+      code = l .code;
+      setup = s;
+      sensor = l .sensor;
+      last = l .last;
+      foreign = l .foreign;
+      item = l .item;
+      sorter = l .sorter;
+      undo = l .undo;
     }
 
 abbrev pub withSensed : Line → Sensor → Last → Line
 withSensed l s k =
     record {
-      status = l .status; error = l .error; code = l .code; setup = l .setup; sensor = s;
-      last = k; foreign = l .foreign; item = l .item; sorter = l .sorter; undo = l .undo;
+      status = l .status;
+      error = l .error;
+      code = l .code;
+      setup = l .setup;
+      sensor = s;
+      last = k;
+      foreign = l .foreign;
+      item = l .item;
+      sorter = l .sorter;
+      undo = l .undo;
     }
 
 abbrev pub withForeign : Line → Foreign → Line
 withForeign l f =
     record {
-      status = l .status; error = l .error; code = l .code; setup = l .setup; sensor = l .sensor;
-      last = l .last; foreign = f; item = l .item; sorter = l .sorter; undo = l .undo;
+      status = l .status;
+      error = l .error;
+      code = l .code;
+      setup = l .setup;
+      sensor = l .sensor;
+      last = l .last;
+      foreign = f;
+      item = l .item;
+      sorter = l .sorter;
+      undo = l .undo;
     }
 
 abbrev pub withItem : Line → Item → Line
 withItem l i =
     record {
-      status = l .status; error = l .error; code = l .code; setup = l .setup; sensor = l .sensor;
-      last = l .last; foreign = l .foreign; item = i; sorter = l .sorter; undo = l .undo;
+      status = l .status;
+      error = l .error;
+      code = l .code;
+      setup = l .setup;
+      sensor = l .sensor;
+      last = l .last;
+      foreign = l .foreign;
+      item = i;
+      sorter = l .sorter;
+      undo = l .undo;
     }
 
 abbrev pub withSorter : Line → Sorter → Line
 withSorter l s =
     record {
-      status = l .status; error = l .error; code = l .code; setup = l .setup; sensor = l .sensor;
-      last = l .last; foreign = l .foreign; item = l .item; sorter = s; undo = l .undo;
+      status = l .status;
+      error = l .error;
+      code = l .code;
+      setup = l .setup;
+      sensor = l .sensor;
+      last = l .last;
+      foreign = l .foreign;
+      item = l .item;
+      sorter = s;
+      undo = l .undo;
     }
 
 abbrev pub withUndo : Line → Undo → Line
 withUndo l u =
     record {
-      status = l .status; error = l .error; code = l .code; setup = l .setup; sensor = l .sensor;
-      last = l .last; foreign = l .foreign; item = l .item; sorter = l .sorter; undo = u;
+      status = l .status;
+      error = l .error;
+      code = l .code;
+      setup = l .setup;
+      sensor = l .sensor;
+      last = l .last;
+      foreign = l .foreign;
+      item = l .item;
+      sorter = l .sorter;
+      undo = u;
     }

@@ -33,7 +33,10 @@ stoppedFor l v = if marked (l .setup .stop) v then withStatus l paused (errorFor
 unfoldable pub given : Line → ℕ → ℕ → ℤ → Effect
 given l detected v net =
     record {
-      line = stoppedFor (sortedFor l v) v; detected = detected; outcome = v; net = if isGrade v then net else pos 0;
+      line = stoppedFor (sortedFor l v) v;
+      detected = detected;
+      outcome = v;
+      net = if isGrade v then net else pos 0;
     }
 
 -- "If its sort bit is set and the queue holds 8, the verdict is crash."

@@ -16,9 +16,13 @@ ghost use Rattle.line.specs.Tallying.{stepIn, untallied, recorded, cance
 ghost use Rattle.line.specs.Refusal.{refusalOf};
 ghost use Rattle.line.specs.Step.{accepted, stepOf};
 use crate::effect::Effect;
-use crate::line::{Line, Undo};
-use crate::reply::{Reply, Step};
-use event::{Event, Sample, Setup};
+use crate::line::Line;
+use crate::line::Undo;
+use crate::reply::Reply;
+use crate::reply::Step;
+use event::Event;
+use event::Sample;
+use event::Setup;
 use settings::Settings;
 use tally::Tally;
 

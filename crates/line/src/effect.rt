@@ -3,7 +3,8 @@ ghost use mathlib.Core.Path.{_≡_};
 ghost use Rattle.line.specs.Effect.{plain, dismissed, halted, halting, bit, replied};
 use crate::item::Item;
 use crate::line::Line;
-use crate::reply::{Done, Reply};
+use crate::reply::Done;
+use crate::reply::Reply;
 use device::Sorter;
 
 pub struct Effect {
@@ -71,7 +72,9 @@ impl Line {
         ensures { λ r. ⌜ r ≡ halted self status ⌝ }
     {
         let off = Sorter::off();
-        self.with_status(status, Line::NO_ERROR).with_sorter(off).with_item(Item::None)
+        self.with_status(status, Line::NO_ERROR)
+            .with_sorter(off)
+            .with_item(Item::None)
     }
 
     pub(crate) fn halting(self, status: u64) -> Effect

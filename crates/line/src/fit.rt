@@ -1,7 +1,9 @@
 // Whether a line is fit: tested before every event, so that no caller is trusted.
 ghost use mathlib.Core.Path.{_≡_};
 ghost use Rattle.line.specs.Fit.{lastFit, sensorFit, errorKnown, undoFit, statusFit, lineFit};
-use crate::line::{Last, Line, Undo};
+use crate::line::Last;
+use crate::line::Line;
+use crate::line::Undo;
 use device::Sensor;
 use event::is_code;
 use weight::is_weight;

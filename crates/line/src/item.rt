@@ -7,7 +7,9 @@ ghost use Rattle.line.specs.Line.{inHand};
 ghost use Rattle.line.specs.Fit.{itemFit};
 ghost use Rattle.line.specs.Sample.{weighed, newItem};
 use event::Setup;
-use weight::{Figure, mean_of, size};
+use weight::Figure;
+use weight::mean_of;
+use weight::size;
 
 // None, waiting with ticks left, or averaging with ticks left and a sum.
 pub enum Item {

@@ -12,6 +12,11 @@ mod tallying;
 mod verdict;
 
 pub use effect::Effect;
-pub use item::{Item, Weighed};
-pub use line::{Last, Line, Undo};
-pub use reply::{Done, Reply, Step};
+pub use item::Item;
+pub use item::Weighed;
+pub use line::Last;
+pub use line::Line;
+pub use line::Undo;
+pub use reply::Done;
+pub use reply::Reply;
+pub use reply::Step;

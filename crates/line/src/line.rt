@@ -2,7 +2,9 @@
 ghost use mathlib.Core.Path.{_≡_};
 ghost use Rattle.line.specs.Line.{busy, conveyor, sorterOn, freshSetup, freshLine, withStatus, withCode, withSetup, withSensed, withForeign, withItem, withSorter, withUndo};
 use crate::item::Item;
-use device::{Foreign, Sensor, Sorter};
+use device::Foreign;
+use device::Sensor;
+use device::Sorter;
 use event::Setup;
 use tally::Tally;
 
@@ -34,22 +36,31 @@ pub struct Line {
 
 impl Line {
     pub const STOPPED: u64 = 0;
+
     pub const RUNNING: u64 = 1;
+
     pub const PAUSED: u64 = 2;
+
     pub const EMERGENCY: u64 = 3;
     // error none
     pub const NO_ERROR: u64 = 255;
 
     // verdicts that a code's tally takes, and waits that the queue takes
     pub const TALLY_LIMIT: u64 = 999_999;
+
     pub const QUEUE_LIMIT: u64 = 8;
 
     // timers of a fresh line, in ticks of 10 ms
     pub const TC: u64 = 0;
+
     pub const TW: u64 = 72;
+
     pub const TA: u64 = 35;
+
     pub const TF: u64 = 0;
+
     pub const TS: u64 = 100;
+
     pub const TO: u64 = 50;
 
     fn fresh_setup() -> Setup

@@ -8,8 +8,11 @@ ghost use Rattle.event.specs.Sample.{sampleRanged};
 ghost use Rattle.line.specs.Fit.{itemFit, lineFit};
 ghost use Rattle.line.specs.Sample.{step1, edgeMade, foreignRises, step2, step3, step4, step5, step6, detecting, step7, runningTick, guarded, fromStep3, sampled};
 use crate::effect::Effect;
-use crate::item::{Item, Weighed, new_item};
-use crate::line::{Last, Line};
+use crate::item::Item;
+use crate::item::Weighed;
+use crate::item::new_item;
+use crate::line::Last;
+use crate::line::Line;
 use event::Sample;
 use settings::Settings;
 

@@ -11,9 +11,12 @@ ghost use Rattle.tally.specs.Memory.{talliesLength, tallyAt, tallyAtFit};
 ghost use Rattle.line.specs.Fit.{undoFit};
 ghost use Rattle.line.specs.Tallying.{stepIn, untallied, noted, recorded, cancelled, codeCleared, clearedOne, clearedAll};
 use crate::effect::Effect;
-use crate::line::{Line, Undo};
+use crate::line::Line;
+use crate::line::Undo;
 use crate::reply::Step;
-use tally::{Lent, Noted, Tally};
+use tally::Lent;
+use tally::Noted;
+use tally::Tally;
 
 impl Effect {
     // The next line with a reply that tallies nothing.

@@ -7,7 +7,8 @@ ghost use Rattle.line.specs.Step.{stored, stepOn};
 ghost use Rattle.book.specs.Claim.{Stands};
 ghost use Rattle.replay.specs.Replay.{freshPlant, storedFor, turnedBy, plantIn, replayed};
 use event::Event;
-use line::{Line, Reply};
+use line::Line;
+use line::Reply;
 use settings::Settings;
 
 // A line with its own hundred settings records.
@@ -37,7 +38,10 @@ fn stored(settings: [Settings; 100], e: Event, reply: Reply) -> [Settings; 100]
     ensures { λ r. ⌜ r ≡ storedFor settings e reply ⌝ }
 {
     match reply {
-        Reply::Refused { number: _, input: _ } => settings,
+        Reply::Refused {
+            number: _,
+            input: _,
+        } => settings,
         Reply::Done(_) => put(settings, e),
     }
 }
@@ -78,6 +82,14 @@ impl Plant {
             line: line,
             settings: settings,
         }
+    }
+
+    // A code's record, for a report.
+    pub fn record_of(self, code: u64) -> Settings
+        ensures { λ r. ⌜ r ≡ getD (self .settings) code blank ⌝ }
+    {
+        let settings = self.settings;
+        record_of(settings, code)
     }
 
     // One event on the plant and the lent tallies.

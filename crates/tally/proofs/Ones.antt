@@ -34,5 +34,12 @@ grade-ones (suc (suc (suc (suc zero)))) = refl
 grade-ones (suc (suc (suc (suc (suc zero))))) = refl
 grade-ones (suc (suc (suc (suc (suc (suc k)))))) =
     let v = suc (suc (suc (suc (suc (suc k))))) in
-    rw (ne-eqb v 1 (λ h. omega arith), ne-eqb v 2 (λ h. omega arith), ne-eqb v 3 (λ h. omega arith), ne-eqb v 4 (λ h. omega arith),
-    ne-eqb v 5 (λ h. omega arith), le-leb 1 v (omega arith), lt-leb v 5 (omega arith))
+    rw (
+      ne-eqb v 1 (λ h. omega arith),
+      ne-eqb v 2 (λ h. omega arith),
+      ne-eqb v 3 (λ h. omega arith),
+      ne-eqb v 4 (λ h. omega arith),
+      ne-eqb v 5 (λ h. omega arith),
+      le-leb 1 v (omega arith),
+      lt-leb v 5 (omega arith),
+    )

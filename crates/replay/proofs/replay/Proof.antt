@@ -58,9 +58,12 @@ loop-again c =
     let n : length (t .last .1 .0) ≡ length (l .tallies) = search needs in
     let es = c .before .before .before .before .before .before .before .before .before .before .before .args .t2 in
     let plant₀ = c .before .before .before .before .before .before .before .fresh .result in
-    let tallies₀ = c .before .before .before .before .before .before .before .before .before .clear .last .0 in
-    (omega arith, l .inv .1, n ∙ l .inv .2,
-    turned-after plant₀ tallies₀ es (l .i) none (l .plant) (l .tallies) (l .inv .3) (omega arith) (t .result) (t .last .1 .0) (t .ensures .0) (t .ensures .1))
+    let tallies₀ = c .before .before .before .before .before .before .before .before .before .clear .last .0 in (
+      omega arith,
+      l .inv .1,
+      n ∙ l .inv .2,
+      turned-after plant₀ tallies₀ es (l .i) none (l .plant) (l .tallies) (l .inv .3) (omega arith) (t .result) (t .last .1 .0) (t .ensures .0) (t .ensures .1),
+    )
 
 length-zeros : (n : ℕ) → length (zeros n) ≡ n
 unfolding zeros

@@ -78,9 +78,10 @@ returns c =
     let a = s .args in
     let w = c .before .before .before .before .before .before .noted2 .given in
     let n = room-of (a .self) (a .t) (c .before .before .before .before .before .before .before .before .before .struct-told .given .1 .1 .1 .0 .1) (s .pre .2) (s .pre .3) (s .pre .4) (w .0 .0) (sym (c .before .before .before .before .before .before .before .before .noted .ensures) ∙ w .1) in
-    let f : tallyFit (w .0 .0) ≡ true = rw (n .1) (added-fit (a .t) (a .self .outcome) (a .self .net) (s .pre .2) (s .pre .3) (s .pre .4) (n .0)) in
-    (simp (n .0, c .replied .ensures, c .before .with-undo .ensures),
-    rw (n .0) (c .before .before .before .write .ensures ∙ written-is (a .tallies .now) (a .self .line .code) (s .pre .0) (s .pre .1) (w .0 .0) f ∙ ap (withTally (a .tallies .now) (a .self .line .code)) (n .1)))
+    let f : tallyFit (w .0 .0) ≡ true = rw (n .1) (added-fit (a .t) (a .self .outcome) (a .self .net) (s .pre .2) (s .pre .3) (s .pre .4) (n .0)) in (
+      simp (n .0, c .replied .ensures, c .before .with-undo .ensures),
+      rw (n .0) (c .before .before .before .write .ensures ∙ written-is (a .tallies .now) (a .self .line .code) (s .pre .0) (s .pre .1) (w .0 .0) f ∙ ap (withTally (a .tallies .now) (a .self .line .code)) (n .1)),
+    )
 
 -- src/tallying.rt:32:5
 returns-2 : tie.Need-returns-2

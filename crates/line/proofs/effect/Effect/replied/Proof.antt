@@ -40,9 +40,14 @@ unfolding replied
 returns c =
     let s = c .before .before .before .before .before .before .before .before in
     rw (back (s .args .self .net) (c .struct-told .given .1 .1 .1 .0 .1))
-    (simp (c .before .bit3 .ensures, c .before .before .sorter-on .ensures, c .before .before .before .bit2 .ensures,
-    c .before .before .before .before .conveyor .ensures, c .before .before .before .before .before .bit .ensures,
-    c .before .before .before .before .before .before .busy .ensures))
+    (simp (
+      c .before .bit3 .ensures,
+      c .before .before .sorter-on .ensures,
+      c .before .before .before .bit2 .ensures,
+      c .before .before .before .before .conveyor .ensures,
+      c .before .before .before .before .before .bit .ensures,
+      c .before .before .before .before .before .before .busy .ensures,
+    ))
 
 pub replied-spec : {M : Type 1} → statement M
 replied-spec =

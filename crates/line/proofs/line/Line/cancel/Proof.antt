@@ -83,9 +83,10 @@ returns-2 c =
     let a = s .args in
     let u = c .before .before .before .before .before .before .before .undo .given in
     let f : tallyFit (u .0 .0) ≡ true = kept-fit (a .self .undo) (u .0 .0) (u .1) (s .pre .1) in
-    let e = cancelled-kept (a .self) (a .tallies .now) (a .self .undo) (u .0 .0) (u .1) in
-    ((simp (c .untallied .ensures, c .before .plain .ensures, c .before .before .with-undo .ensures)) ∙ ap stepIn (sym e),
-    c .before .before .before .before .write .ensures ∙ written-is (a .tallies .now) (a .self .code) (s .pre .0) (s .pre .2) (u .0 .0) f ∙ ap (λ (o : Out). o .tallies) (sym e))
+    let e = cancelled-kept (a .self) (a .tallies .now) (a .self .undo) (u .0 .0) (u .1) in (
+      (simp (c .untallied .ensures, c .before .plain .ensures, c .before .before .with-undo .ensures)) ∙ ap stepIn (sym e),
+      c .before .before .before .before .write .ensures ∙ written-is (a .tallies .now) (a .self .code) (s .pre .0) (s .pre .2) (u .0 .0) f ∙ ap (λ (o : Out). o .tallies) (sym e),
+    )
 
 pub cancel-spec : {M : Type 1} → statement M
 cancel-spec =

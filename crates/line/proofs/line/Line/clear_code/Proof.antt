@@ -45,9 +45,10 @@ empty-fit = refl
 returns : tie.Need-returns
 returns c =
     let s = c .before .before .before .before .before .before .before in
-    let a = s .args in
-    (simp (c .untallied .ensures, c .before .plain .ensures, c .before .before .code-cleared .ensures),
-    rw (c .before .before .before .before .before .empty .ensures) at (c .before .before .before .before .write .ensures) ∙ written-is (a .tallies .now) (a .code) (s .pre .0) (s .pre .1) emptyTally empty-fit)
+    let a = s .args in (
+      simp (c .untallied .ensures, c .before .plain .ensures, c .before .before .code-cleared .ensures),
+      rw (c .before .before .before .before .before .empty .ensures) at (c .before .before .before .before .write .ensures) ∙ written-is (a .tallies .now) (a .code) (s .pre .0) (s .pre .1) emptyTally empty-fit,
+    )
 
 pub clear-code-spec : {M : Type 1} → statement M
 clear-code-spec =

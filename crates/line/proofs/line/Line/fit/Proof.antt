@@ -61,8 +61,17 @@ returns-2 : tie.Need-returns-2
 unfolding lineFit
 returns-2 c =
     let s = c .before .before .before .before .before .before .before .before .before .before .before .before .before .before .args .self in
-    simp (sym (c .before .before .before .before .before .before .before .before .before .before .before .before .fit .ensures) ∙ not-false _ (c .before .before .before .before .before .before .before .before .before .before .before .if1 .left), and-true (isCode (s .code)), c .fit5 .ensures, c .before .fit4 .ensures, c .before .before .before .fit3 .ensures,
-    c .before .before .before .before .status-fit .ensures, c .before .before .before .before .before .sensor-fit .ensures, c .before .before .before .before .before .before .fit2 .ensures, c .before .before .before .before .before .before .before .is-code .ensures)
+    simp (
+      sym (c .before .before .before .before .before .before .before .before .before .before .before .before .fit .ensures) ∙ not-false _ (c .before .before .before .before .before .before .before .before .before .before .before .if1 .left),
+      and-true (isCode (s .code)),
+      c .fit5 .ensures,
+      c .before .fit4 .ensures,
+      c .before .before .before .fit3 .ensures,
+      c .before .before .before .before .status-fit .ensures,
+      c .before .before .before .before .before .sensor-fit .ensures,
+      c .before .before .before .before .before .before .fit2 .ensures,
+      c .before .before .before .before .before .before .before .is-code .ensures,
+    )
 
 pub fit-spec : {M : Type 1} → statement M
 fit-spec =

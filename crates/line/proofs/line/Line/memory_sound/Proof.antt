@@ -73,8 +73,13 @@ returns-3 : tie.Need-returns-3
 unfolding memorySound
 returns-3 c =
     let a = c .before .before .before .before .before .before .args in
-    simp (sym (c .before .reads-tally .ensures) ∙ c .if2 .left, c .before .before .fit2 .ensures, c .before .before .before .reads-record .ensures, first (c .before .before .before .before),
-    and-true (not (readsRecord (a .e)) || recordFit (a .active)))
+    simp (
+      sym (c .before .reads-tally .ensures) ∙ c .if2 .left,
+      c .before .before .fit2 .ensures,
+      c .before .before .before .reads-record .ensures,
+      first (c .before .before .before .before),
+      and-true (not (readsRecord (a .e)) || recordFit (a .active)),
+    )
 
 pub memory-sound-spec : {M : Type 1} → statement M
 memory-sound-spec =

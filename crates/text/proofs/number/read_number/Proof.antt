@@ -1,0 +1,59 @@
+-- `read_number` goes by the first byte: 0, a minus sign, or another. Assumes nothing.
+use borrow.Author.Needs.{needs}
+use mathlib.Core.Path.{_≡_, sym, _∙_}
+use lib.ListN.{drop}
+use denote.Ref.{now}
+use Rattle.text.proofs.Heads.{Byte, byte-here, number-zero, number-minus, number-plain}
+use Rattle.text.proofs.number.read_number.Statement.{statement}
+use Rattle.text.proofs.number.read_number.Tie as tie
+
+byte-at-requires : tie.Need-byte-at-requires
+byte-at-requires c κs = search needs
+
+zero : (c : tie.Then1) → Byte 48 (now (c .before .before .before .args .line)) (c .before .before .before .args .at)
+zero c = byte-here 48 _ _ (sym (c .before .byte-at .ensures) ∙ c .if1 .taken)
+
+add-t4 : tie.Need-add-t4
+add-t4 c = let h = zero c .inside in search needs
+
+returns : tie.Need-returns
+returns c = number-zero _ _ (zero c)
+
+byte-at-requires-2 : tie.Need-byte-at-requires-2
+byte-at-requires-2 c κs = search needs
+
+minus : (c : tie.Then2) → Byte 45 (now (c .before .before .before .before .before .args .line)) (c .before .before .before .before .before .args .at)
+minus c = byte-here 45 _ _ (sym (c .before .byte-at2 .ensures) ∙ c .if2 .taken)
+
+add-read-positive : tie.Need-add-read-positive
+add-read-positive c = let h = minus c .inside in search needs
+
+read-positive-requires : tie.Need-read-positive-requires
+read-positive-requires c κs = search needs
+
+returns-2 : tie.Need-returns-2
+returns-2 c = c .read-positive .ensures ∙ number-minus _ _ (minus (c .before))
+
+read-positive-requires-2 : tie.Need-read-positive-requires-2
+read-positive-requires-2 c κs = search needs
+
+returns-3 : tie.Need-returns-3
+returns-3 c =
+    let e = c .before .before in
+    let a = e .before .before .before .before .args in
+    c .read-positive2 .ensures
+    ∙ number-plain (drop (a .at) (now (a .line))) (sym (e .before .before .byte-at .ensures) ∙ e .before .if1 .left) (sym (e .byte-at2 .ensures) ∙ c .before .if2 .left)
+
+pub read-number-spec : {M : Type 1} → statement M
+read-number-spec =
+    tie.close
+    (tie.spec
+    byte-at-requires
+    add-t4
+    returns
+    byte-at-requires-2
+    add-read-positive
+    read-positive-requires
+    returns-2
+    read-positive-requires-2
+    returns-3)

@@ -1,0 +1,4 @@
+pub mod Number
+pub mod Form
+pub mod Read
+pub mod Views

@@ -1,0 +1,65 @@
+-- 01, "Text lines": how a number is written, and how it is read. A text is a list of bytes.
+use Prim.Native.Nat.{ℕ, zero, suc, _+_, _-_, _*_, _/_, _%_}
+use mathlib.Core.Bool.{Bool, true, false, _&&_}
+use mathlib.Core.List.{List, [], _∷_, _++_}
+use lib.Dec.{ltb, eqb}
+use lib.IntN.{ℤ, pos, negsuc, negℤ}
+use Rattle.weight.specs.Choice.{if_then_else_, within}
+
+-- what stands at the head of a text: no number, or a number and the text behind it
+pub data Head : Type 0 where
+  none : Head
+  some : ℤ → List ℕ → Head
+
+abbrev pub isDigit : ℕ → Bool
+isDigit b = within 48 57 b
+
+-- a size, below zero or not
+abbrev pub signed : Bool → ℕ → ℤ
+signed true n = negℤ (pos n)
+signed false n = pos n
+
+-- the digits at the head of a text, behind those of n: "of any number of digits"
+abbrev pub digits : Bool → ℕ → List ℕ → Head
+digits below n [] = some (signed below n) []
+digits below n (b ∷ s) = if isDigit b then digits below (n * 10 + (b - 48)) s else some (signed below n) (b ∷ s)
+
+-- digits with the first 1 to 9: "no .. leading zero"
+abbrev pub positive : Bool → List ℕ → Head
+positive below [] = none
+positive below (b ∷ s) = if within 49 57 b then digits below (b - 48) s else none
+
+-- `0`, or `-` and such digits, or such digits: "no plus, leading zero or -0"
+abbrev pub numberHead : List ℕ → Head
+numberHead [] = none
+numberHead (b ∷ s) = if eqb b 48 then some (pos 0) s else (if eqb b 45 then positive true s else positive false (b ∷ s))
+
+abbrev pub fourDigits : ℕ → ℕ → ℕ → ℕ → Bool
+fourDigits a b c d = isDigit a && (isDigit b && (isDigit c && isDigit d))
+
+abbrev pub fourNumber : ℕ → ℕ → ℕ → ℕ → ℕ
+fourNumber a b c d = (a - 48) * 1000 + (b - 48) * 100 + (c - 48) * 10 + (d - 48)
+
+-- "with four digits"
+abbrev pub fourHead : List ℕ → Head
+fourHead [] = none
+fourHead (a ∷ []) = none
+fourHead (a ∷ b ∷ []) = none
+fourHead (a ∷ b ∷ c ∷ []) = none
+fourHead (a ∷ b ∷ c ∷ d ∷ s) = if fourDigits a b c d then some (pos (fourNumber a b c d)) s else none
+
+-- The writer. A number below 10 is its digit, any other its tenth and its last digit; k bounds the number of digits.
+abbrev pub decimalBy : ℕ → ℕ → List ℕ
+decimalBy zero n = []
+decimalBy (suc k) n = if ltb n 10 then (48 + n) ∷ [] else (decimalBy k (n / 10) ++ (48 + n % 10) ∷ [])
+
+abbrev pub decimal : ℕ → List ℕ
+decimal n = decimalBy (suc n) n
+
+abbrev pub numberText : ℤ → List ℕ
+numberText (pos n) = decimal n
+numberText (negsuc n) = 45 ∷ decimal (suc n)
+
+abbrev pub fourText : ℤ → List ℕ
+fourText (pos n) = (48 + n / 10 / 10 / 10) ∷ (48 + n / 10 / 10 % 10) ∷ (48 + n / 10 % 10) ∷ (48 + n % 10) ∷ []
+fourText (negsuc n) = []

@@ -1,0 +1,131 @@
+-- 01, "Text lines": what a line says.
+use Prim.Native.Nat.{ℕ, suc, min}
+use mathlib.Core.List.{List, [], _∷_, _++_, map}
+use lib.ListN.{length, getD}
+use lib.Dec.{leb}
+use lib.IntN.{ℤ, pos, negsuc, negℤ}
+use Prim.Native.String.{String}
+use Rattle.weight.specs.Choice.{if_then_else_}
+use Rattle.event.specs.declared.Event.{Event}
+use Rattle.event.specs.declared.Event.the-variants as event
+use Rattle.text.specs.declared.Read.{Read}
+use Rattle.text.specs.declared.Read.the-variants as read
+use Rattle.text.specs.Form.{Item, four, plain, fieldsForm, Values, other, values, lineValues}
+
+-- "A well-formed number too small or too large, of any number of digits, is refused 2": no field's range reaches
+-- this limit, so a number held at it is out of range as the number was.
+abbrev pub limit : ℕ
+limit = 1000000000
+
+abbrev pub hold : ℤ → ℤ
+hold (pos n) = pos (min n limit)
+hold (negsuc n) = negℤ (pos (min (suc n) limit))
+
+abbrev pub held : Values → Values
+held other = other
+held (values vs) = values (map hold vs)
+
+-- a value for a field that is never negative: a negative one, too small, is out of range as the limit is
+abbrev pub unsigned : ℤ → ℕ
+unsigned (pos n) = n
+unsigned (negsuc n) = limit
+
+-- value i of a line, for a field with a sign and for one without
+abbrev pub at : List ℤ → ℕ → ℤ
+at vs i = getD vs i (pos 0)
+
+abbrev pub sizeAt : List ℤ → ℕ → ℕ
+sizeAt vs i = unsigned (at vs i)
+
+-- a form, and what the values of a line of that form say
+pub record Kind : Type 0 where
+  pub form : List Item
+  pub means : List ℤ → Read
+
+-- the fields of the example lines, "order as below"
+abbrev pub sample : Kind
+sample = record {
+  form = fieldsForm ("sensor" ∷ "emergency" ∷ "safety" ∷ "foreign" ∷ "gross" ∷ []);
+  means = λ v. read.Event (event.Sample (record {
+    gross = at v 4;
+    sensor = sizeAt v 0;
+    emergency = sizeAt v 1;
+    safety = sizeAt v 2;
+    foreign = sizeAt v 3;
+  }));
+}
+
+abbrev pub setup : Kind
+setup = record {
+  form = fieldsForm ("mode" ∷ "edge" ∷ "tc" ∷ "tw" ∷ "ta" ∷ "tf" ∷ "ts" ∷ "to" ∷ "sort" ∷ "stop" ∷ "need" ∷ []);
+  means = λ v. read.Event (event.Setup (record {
+    mode = sizeAt v 0;
+    edge = sizeAt v 1;
+    tc = sizeAt v 2;
+    tw = sizeAt v 3;
+    ta = sizeAt v 4;
+    tf = sizeAt v 5;
+    ts = sizeAt v 6;
+    to = sizeAt v 7;
+    sort = sizeAt v 8;
+    stop = sizeAt v 9;
+    need = sizeAt v 10;
+  }));
+}
+
+abbrev pub store : Kind
+store = record {
+  form = fieldsForm ("code" ∷ "target" ∷ "lolo" ∷ "lo" ∷ "hi" ∷ "hihi" ∷ "nearzero" ∷ "tare" ∷ []);
+  means = λ v. read.Event (event.Store (sizeAt v 0) (record {
+    target = at v 1;
+    lolo = at v 2;
+    lo = at v 3;
+    hi = at v 4;
+    hihi = at v 5;
+    nearzero = at v 6;
+    tare = at v 7;
+  }));
+}
+
+abbrev pub report : Kind
+report = record { form = fieldsForm ("report" ∷ []); means = λ v. read.Report (sizeAt v 0) }
+
+abbrev pub command : String → Event → Kind
+command word e = record { form = plain word; means = λ v. read.Event e }
+
+-- "with four digits"
+abbrev pub coded : String → (ℕ → Event) → Kind
+coded word e = record { form = plain word ++ four ∷ []; means = λ v. read.Event (e (sizeAt v 0)) }
+
+-- "CCOD and CDTL with four digits (recall, clear code)"
+abbrev pub codedCommands : List Kind
+codedCommands = coded "CCOD" event.Recall ∷ coded "CDTL" event.ClearCode ∷ []
+
+-- "COPR run, CSTD stop, CSTP emergency, CCAC cancel, CETL clear all, CRER reset, CNOP"
+abbrev pub commands : List Kind
+commands =
+    command "COPR" event.Run
+    ∷ command "CSTD" event.Stop
+    ∷ command "CSTP" event.Emergency
+    ∷ command "CCAC" event.Cancel
+    ∷ command "CETL" event.ClearAll
+    ∷ command "CRER" event.ErrorReset
+    ∷ command "CNOP" event.NoOperation
+    ∷ codedCommands
+
+abbrev pub kinds : List Kind
+kinds = sample ∷ setup ∷ store ∷ report ∷ commands
+
+-- what the values say, where there are some
+abbrev pub says : Values → (List ℤ → Read) → Read → Read
+says other means next = next
+says (values vs) means next = means vs
+
+-- what a line says by the first kind whose form it has; "a line that reads as no event and no report" is other
+abbrev pub firstOf : List Kind → List ℕ → Read
+firstOf [] s = read.Other
+firstOf (k ∷ more) s = says (held (lineValues (k .form) s)) (k .means) (firstOf more s)
+
+-- "over 120 bytes" is no line
+abbrev pub readLine : List ℕ → Read
+readLine s = if leb (length s) 120 then firstOf kinds s else read.Other

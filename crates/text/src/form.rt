@@ -1,0 +1,70 @@
+// The values of a line by its form: in a form # is a number, @ four digits, and any other byte itself.
+ghost use mathlib.Core.Path.{_≡_};
+ghost use Prim.Native.Nat.{_≤_};
+ghost use lib.ListN.{drop};
+ghost use Rattle.text.specs.Form.{lineValues, numbers};
+ghost use Rattle.text.specs.Read.{held};
+ghost use Rattle.text.specs.Views.{isLiteral, itemOf, itemsOf, valueHead, found, heldHead, fieldsValues};
+use crate::number::Found;
+use crate::number::byte_at;
+use crate::number::read_four;
+use crate::number::read_number;
+
+// The values of a line, where `ok`; a form has at most eleven.
+pub(crate) struct Fields {
+    pub(crate) ok: bool,
+    pub(crate) values: [i64; 11],
+}
+
+fn is_literal(item: u8) -> bool
+    ensures { λ r. ⌜ r ≡ isLiteral item ⌝ }
+{
+    (item != b'#') & (item != b'@')
+}
+
+// What an item that has a value finds at a place.
+fn read_value(line: &[u8], at: usize, item: u8) -> Found
+    ensures { λ r. ⌜ found (now (line .entry)) r ≡ heldHead (valueHead item (drop at (now (line .entry)))) ⌝ }
+{
+    if item == b'#' {
+        return read_number(line, at);
+    }
+    read_four(line, at)
+}
+
+pub(crate) fn read_form(line: &[u8], form: &[u8]) -> Fields
+    requires { ⌜ numbers (itemsOf (now form)) ≤ 11 ⌝ }
+    ensures { λ r. ⌜ fieldsValues (now (form .entry)) r ≡ held (lineValues (itemsOf (now (form .entry))) (now (line .entry))) ⌝ }
+{
+    let mut values = [0i64; 11];
+    let mut count = 0;
+    let mut at = 0;
+    let mut k = 0;
+    while k < form.len() {
+        let item = form[k];
+        if is_literal(item) {
+            if !byte_at(line, at, item) {
+                return Fields {
+                    ok: false,
+                    values: values,
+                };
+            }
+            at += 1;
+        } else {
+            let Found::Value { value, next } = read_value(line, at, item) else {
+                return Fields {
+                    ok: false,
+                    values: values,
+                };
+            };
+            values[count] = value;
+            count += 1;
+            at = next;
+        }
+        k += 1;
+    }
+    Fields {
+        ok: line.len() <= at,
+        values: values,
+    }
+}

@@ -1,0 +1,14 @@
+// What a line of text says: an event, a report, or neither.
+use event::Event;
+
+mod form;
+mod number;
+mod reader;
+
+pub use reader::read_line;
+
+pub enum Read {
+    Event(Event),
+    Report(u64),
+    Other,
+}

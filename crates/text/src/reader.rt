@@ -1,0 +1,173 @@
+// What a line says: its form by its first byte, then the event or the report that its values give.
+ghost use mathlib.Core.Path.{_≡_};
+ghost use mathlib.Core.List.{[], _∷_};
+ghost use Prim.Native.Nat.{_≤_};
+ghost use Rattle.text.specs.Form.{lineValues, numbers};
+ghost use Rattle.text.specs.Read.{unsigned, sample, setup, store, report, codedCommands, commands, firstOf, readLine};
+ghost use Rattle.text.specs.Views.{itemsOf, reads};
+use crate::Read;
+use crate::form::read_form;
+use crate::number::LIMIT;
+use event::Event;
+use event::Sample;
+use event::Setup;
+use settings::Settings;
+
+// A negative value is too small for a field that is never negative, as the limit is too large.
+fn unsigned_of(value: i64) -> u64
+    ensures { λ r. ⌜ r ≡ unsigned value ⌝ }
+{
+    if value < 0 {
+        return LIMIT;
+    }
+    value as u64
+}
+
+fn read_sample(line: &[u8]) -> Read
+    ensures { λ r. ⌜ r ≡ firstOf (sample ∷ []) (now (line .entry)) ⌝ }
+{
+    let r = read_form(line, b"sensor=# emergency=# safety=# foreign=# gross=#");
+    if !r.ok {
+        return Read::Other;
+    }
+    let v = r.values;
+    Read::Event(Event::Sample(Sample {
+        gross: v[4],
+        sensor: unsigned_of(v[0]),
+        emergency: unsigned_of(v[1]),
+        safety: unsigned_of(v[2]),
+        foreign: unsigned_of(v[3]),
+    }))
+}
+
+fn read_setup(line: &[u8]) -> Read
+    ensures { λ r. ⌜ r ≡ firstOf (setup ∷ []) (now (line .entry)) ⌝ }
+{
+    let r = read_form(
+        line,
+        b"mode=# edge=# tc=# tw=# ta=# tf=# ts=# to=# sort=# stop=# need=#",
+    );
+    if !r.ok {
+        return Read::Other;
+    }
+    let v = r.values;
+    Read::Event(Event::Setup(Setup {
+        mode: unsigned_of(v[0]),
+        edge: unsigned_of(v[1]),
+        tc: unsigned_of(v[2]),
+        tw: unsigned_of(v[3]),
+        ta: unsigned_of(v[4]),
+        tf: unsigned_of(v[5]),
+        ts: unsigned_of(v[6]),
+        to: unsigned_of(v[7]),
+        sort: unsigned_of(v[8]),
+        stop: unsigned_of(v[9]),
+        need: unsigned_of(v[10]),
+    }))
+}
+
+fn read_store(line: &[u8]) -> Read
+    ensures { λ r. ⌜ r ≡ firstOf (store ∷ []) (now (line .entry)) ⌝ }
+{
+    let r = read_form(
+        line,
+        b"code=# target=# lolo=# lo=# hi=# hihi=# nearzero=# tare=#",
+    );
+    if !r.ok {
+        return Read::Other;
+    }
+    let v = r.values;
+    Read::Event(Event::Store(
+        unsigned_of(v[0]),
+        Settings {
+            target: v[1],
+            lolo: v[2],
+            lo: v[3],
+            hi: v[4],
+            hihi: v[5],
+            nearzero: v[6],
+            tare: v[7],
+        },
+    ))
+}
+
+fn read_report(line: &[u8]) -> Read
+    ensures { λ r. ⌜ r ≡ firstOf (report ∷ []) (now (line .entry)) ⌝ }
+{
+    let r = read_form(line, b"report=#");
+    if !r.ok {
+        return Read::Other;
+    }
+    let v = r.values;
+    Read::Report(unsigned_of(v[0]))
+}
+
+fn read_coded(line: &[u8]) -> Read
+    ensures { λ r. ⌜ r ≡ firstOf codedCommands (now (line .entry)) ⌝ }
+{
+    let recall = read_form(line, b"CCOD@");
+    if recall.ok {
+        let v = recall.values;
+        return Read::Event(Event::Recall(unsigned_of(v[0])));
+    }
+    let clear = read_form(line, b"CDTL@");
+    if clear.ok {
+        let v = clear.values;
+        return Read::Event(Event::ClearCode(unsigned_of(v[0])));
+    }
+    Read::Other
+}
+
+fn has_form(line: &[u8], form: &[u8]) -> bool
+    requires { ⌜ numbers (itemsOf (now form)) ≤ 11 ⌝ }
+    ensures { λ r. ⌜ r ≡ reads (lineValues (itemsOf (now (form .entry))) (now (line .entry))) ⌝ }
+{
+    let r = read_form(line, form);
+    r.ok
+}
+
+fn read_command(line: &[u8]) -> Read
+    ensures { λ r. ⌜ r ≡ firstOf commands (now (line .entry)) ⌝ }
+{
+    if has_form(line, b"COPR") {
+        return Read::Event(Event::Run);
+    }
+    if has_form(line, b"CSTD") {
+        return Read::Event(Event::Stop);
+    }
+    if has_form(line, b"CSTP") {
+        return Read::Event(Event::Emergency);
+    }
+    if has_form(line, b"CCAC") {
+        return Read::Event(Event::Cancel);
+    }
+    if has_form(line, b"CETL") {
+        return Read::Event(Event::ClearAll);
+    }
+    if has_form(line, b"CRER") {
+        return Read::Event(Event::ErrorReset);
+    }
+    if has_form(line, b"CNOP") {
+        return Read::Event(Event::NoOperation);
+    }
+    read_coded(line)
+}
+
+pub fn read_line(line: &[u8]) -> Read
+    ensures { λ r. ⌜ r ≡ readLine (now (line .entry)) ⌝ }
+{
+    if 120 < line.len() {
+        return Read::Other;
+    }
+    if line.len() == 0 {
+        return Read::Other;
+    }
+    match line[0] {
+        b's' => read_sample(line),
+        b'm' => read_setup(line),
+        b'c' => read_store(line),
+        b'r' => read_report(line),
+        b'C' => read_command(line),
+        _ => Read::Other,
+    }
+}
