@@ -2,121 +2,51 @@
 ghost use Prim.Native.Nat.{_≤_};
 ghost use lib.ListN.{length};
 use event::Event;
-use libc::STDIN_FILENO;
-use libc::STDOUT_FILENO;
-use line::Done;
-use line::Line;
+use libc::{STDIN_FILENO, STDOUT_FILENO};
 use line::Reply;
 use replay::Plant;
-use sheet::Report;
-use sheet::Sheet;
-use spread::Spread;
+use sheet::{Report, Sheet};
 use text::Read;
-use weight::Figure;
 
-fn show(key: &[u8], n: u64) {
-    io::write_all(STDOUT_FILENO, key);
-    io::print_decimal(STDOUT_FILENO, n);
-}
-
-fn show_signed(key: &[u8], z: i64) {
-    if z < 0 {
-        io::write_all(STDOUT_FILENO, key);
-        show(b"-", weight::size(z));
-        return;
+fn write_first(out: &[u8], n: usize) {
+    if n <= out.len() {
+        io::write_all(STDOUT_FILENO, &out[0..n]);
     }
-    show(key, weight::size(z));
-}
-
-fn show_figure(key: &[u8], f: Figure) {
-    match f {
-        Figure::Of(z) => show_signed(key, z),
-        Figure::None => show_none(key),
-    }
-}
-
-fn show_spread(key: &[u8], s: Spread) {
-    match s {
-        Spread::Of(n) => show(key, n),
-        Spread::None => show_none(key),
-    }
-}
-
-fn show_none(key: &[u8]) {
-    io::write_all(STDOUT_FILENO, key);
-    io::write_all(STDOUT_FILENO, b"none");
-}
-
-fn show_done(d: Done) {
-    show(b"status=", d.status);
-    show(b" busy=", d.busy);
-    show(b" conveyor=", d.conveyor);
-    show(b" sorter=", d.sorter);
-    show(b" detected=", d.detected);
-    show(b" outcome=", d.outcome);
-    show_signed(b" net=", d.net);
-    show(b" tallied=", d.tallied);
-    if d.error == Line::NO_ERROR {
-        show_none(b" error=");
-    } else {
-        show(b" error=", d.error);
-    }
-    io::write_all(STDOUT_FILENO, b"\n");
-}
-
-fn show_refusal(number: u64, input: u64) {
-    show(b"refused=", number);
-    show(b" input=", input);
-    io::write_all(STDOUT_FILENO, b"\n");
 }
 
 fn show_reply(r: Reply) {
-    match r {
-        Reply::Refused { number, input } => show_refusal(number, input),
-        Reply::Done(d) => show_done(d),
-    }
+    let mut out = [0u8; 256];
+    let n = print::reply_line(&mut out, r);
+    write_first(&out, n);
 }
 
-fn show_counts(code: u64, s: Sheet) {
-    show(b"code=", code);
-    show(b"\ntotal=", s.total);
-    show(b"\nng=", s.ng);
-    show(b"\nlolo=", s.lolo);
-    show(b"\nlo=", s.lo);
-    show(b"\nok=", s.ok);
-    show(b"\nhi=", s.hi);
-    show(b"\nhihi=", s.hihi);
-    show(b"\nforeign=", s.foreign);
-    show(b"\ndouble=", s.double);
-    show(b"\ncrash=", s.crash);
+fn show_refusal(number: u64) {
+    let reply = Reply::Refused {
+        number: number,
+        input: 0,
+    };
+    show_reply(reply);
 }
 
-fn show_figures(s: Sheet) {
-    let max = s.max;
-    let min = s.min;
-    let mean = s.mean;
-    let deviation = s.deviation;
-    let sd = s.sd;
-    let sdp = s.sdp;
-    show_figure(b"\nmax=", max);
-    show_figure(b"\nmin=", min);
-    show_signed(b"\nsum=", s.sum);
-    show_figure(b"\nmean=", mean);
-    show_figure(b"\ndeviation=", deviation);
-    show_spread(b"\nsd=", sd);
-    show_spread(b"\nsdp=", sdp);
-    io::write_all(STDOUT_FILENO, b"\n");
+fn show_sheet(code: u64, s: Sheet) {
+    let mut out = [0u8; 1024];
+    let n = print::sheet_lines(&mut out, code, s);
+    write_first(&out, n);
 }
 
 fn report(plant: Plant, tallies: &[i64], code: u64) {
     let r = sheet::report_of(100, plant.record_of(code), tallies, code);
     match r {
-        Report::Refused(number) => show_refusal(number, 0),
-        Report::Printed(s) => {
-            show_counts(code, s);
-            show_figures(s);
-        }
+        Report::Refused(number) => show_refusal(number),
+        Report::Printed(s) => show_sheet(code, s),
     }
+}
+
+fn turn(plant: Plant, tallies: &mut [i64], e: Event) -> Plant {
+    let turned = plant.turn(tallies, e);
+    let reply = turned.reply;
+    show_reply(reply);
+    turned.plant
 }
 
 // One line of text: an event, a report, or neither.
@@ -129,17 +59,10 @@ fn answer(plant: Plant, tallies: &mut [i64], line: &[u8]) -> Plant {
             plant
         }
         Read::Other => {
-            show_refusal(1, 0);
+            show_refusal(1);
             plant
         }
     }
-}
-
-fn turn(plant: Plant, tallies: &mut [i64], e: Event) -> Plant {
-    let turned = plant.turn(tallies, e);
-    let reply = turned.reply;
-    show_reply(reply);
-    turned.plant
 }
 
 // Where the line that begins at `start` ends: at its LF, or at n.

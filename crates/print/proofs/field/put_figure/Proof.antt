@@ -1,0 +1,44 @@
+-- `put_figure`: each case is printed by its own function. Assumes nothing.
+use Rattle.weight.proofs.Signed.{back}
+use borrow.Author.Needs.{needs}
+use Rattle.print.proofs.field.put_figure.Statement.{statement}
+use Rattle.print.proofs.field.put_figure.Tie as tie
+
+enum-told : tie.Need-enum-told
+enum-told c = search needs
+
+put-none-requires : tie.Need-put-none-requires
+put-none-requires c κs = search needs
+
+enum-known-f : tie.Need-enum-known-f
+enum-known-f c = search needs
+
+put-number-requires : tie.Need-put-number-requires
+put-number-requires c κs = search needs
+
+same-length : tie.Need-same-length
+same-length c = search needs
+
+returns : tie.Need-returns
+returns c = rw (c .before .before .before .before .enum-told .given .1) (c .before .before .put-none .ensures)
+
+same-length-2 : tie.Need-same-length-2
+same-length-2 c = search needs
+
+returns-2 : tie.Need-returns-2
+returns-2 c =
+    let v = c .before .before .before .before .before .f .given in
+    rw (v .1) (rw (back (v .0 .0) (c .before .before .before .before .known-told .given .0 .1)) at (c .before .before .put-number .ensures))
+
+pub put-figure-spec : {M : Type 1} → statement M
+put-figure-spec =
+    tie.close
+    (tie.spec
+    enum-told
+    put-none-requires
+    enum-known-f
+    put-number-requires
+    same-length
+    returns
+    same-length-2
+    returns-2)

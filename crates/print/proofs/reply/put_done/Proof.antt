@@ -1,0 +1,45 @@
+-- `put_done`: two parts and LF, one behind the other. Assumes nothing.
+use native.Mathlib.Omega.{arith}
+use Rattle.print.specs.Text.{plain, lf}
+use Rattle.print.specs.Reply.{shown, did, doneText}
+use Rattle.print.proofs.Put.{wrote-then, wrote-in, wrote-as}
+use Rattle.print.proofs.Parts.{two-parts}
+use borrow.Author.Needs.{needs}
+use Rattle.print.proofs.reply.put_done.Statement.{statement}
+use Rattle.print.proofs.reply.put_done.Tie as tie
+
+put-shown-requires : tie.Need-put-shown-requires
+put-shown-requires c κs = search needs
+
+put-did-requires : tie.Need-put-did-requires
+put-did-requires c κs = search needs
+
+slice-aggregate-put : tie.Need-slice-aggregate-put
+slice-aggregate-put c = search needs
+
+put-requires : tie.Need-put-requires
+put-requires c κs = search needs
+
+same-length : tie.Need-same-length
+same-length c = search needs
+
+returns : tie.Need-returns
+unfolding doneText
+returns c =
+    let end = c .before .before in
+    let second = end .before .before .before .before .before in
+    let first = second .before .before .before .before in
+    let d = first .before .before .before .args .d in
+    let w = wrote-then (first .put-shown .ensures) (wrote-then (second .put-did .ensures) (end .put .ensures)) in
+    wrote-in (omega arith) (wrote-as (two-parts (plain " ") (shown d) (did d) lf (omega arith)) w)
+
+pub put-done-spec : {M : Type 1} → statement M
+put-done-spec =
+    tie.close
+    (tie.spec
+    put-shown-requires
+    put-did-requires
+    slice-aggregate-put
+    put-requires
+    same-length
+    returns)

@@ -1,0 +1,70 @@
+-- `sheet_lines`: a buffer that is too short is kept; else five parts and LF, one behind the other. Assumes nothing.
+use denote.Ref.{now}
+use native.Mathlib.Omega.{arith}
+use Rattle.print.specs.Text.{lf}
+use Rattle.print.specs.Sheet.{totals, grades, faults, weights, spreads, sheetText}
+use Rattle.print.proofs.Put.{wrote-then, wrote-as, wrote-front, kept-front}
+use Rattle.print.proofs.Parts.{five-parts}
+use borrow.Author.Needs.{needs}
+use Rattle.print.proofs.report.sheet_lines.Statement.{statement}
+use Rattle.print.proofs.report.sheet_lines.Tie as tie
+
+returns : tie.Need-returns
+returns c =
+    let a = c .before .before .args in
+    kept-front 1024 (sheetText (a .code) (a .s)) (now (a .out)) (c .if1 .taken)
+
+put-totals-requires : tie.Need-put-totals-requires
+put-totals-requires c κs = search needs
+
+put-grades-requires : tie.Need-put-grades-requires
+put-grades-requires c κs = search needs
+
+put-faults-requires : tie.Need-put-faults-requires
+put-faults-requires c κs = search needs
+
+put-weights-requires : tie.Need-put-weights-requires
+put-weights-requires c κs = search needs
+
+put-spreads-requires : tie.Need-put-spreads-requires
+put-spreads-requires c κs = search needs
+
+slice-aggregate-put : tie.Need-slice-aggregate-put
+slice-aggregate-put c = search needs
+
+put-requires : tie.Need-put-requires
+put-requires c κs = search needs
+
+same-length : tie.Need-same-length
+same-length c = search needs
+
+returns-2 : tie.Need-returns-2
+unfolding sheetText
+returns-2 c =
+    let end = c .before .before in
+    let fifth = end .before .before .before .before .before in
+    let fourth = fifth .before .before .before .before in
+    let third = fourth .before .before .before .before in
+    let second = third .before .before .before .before in
+    let first = second .before .before .before .before in
+    let test = first .before .before in
+    let code = test .before .before .args .code in
+    let s = test .before .before .args .s in
+    let rest = wrote-then (third .put-faults .ensures) (wrote-then (fourth .put-weights .ensures) (wrote-then (fifth .put-spreads .ensures) (end .put .ensures))) in
+    let w = wrote-then (first .put-totals .ensures) (wrote-then (second .put-grades .ensures) rest) in
+    wrote-front 1024 (test .if1 .left) (wrote-as (five-parts lf (totals code s) (grades s) (faults s) (weights s) (spreads s) lf (omega arith)) w)
+
+pub sheet-lines-spec : {M : Type 1} → statement M
+sheet-lines-spec =
+    tie.close
+    (tie.spec
+    returns
+    put-totals-requires
+    put-grades-requires
+    put-faults-requires
+    put-weights-requires
+    put-spreads-requires
+    slice-aggregate-put
+    put-requires
+    same-length
+    returns-2)

@@ -1,0 +1,6 @@
+pub mod Text
+pub mod Reply
+pub mod Sheet
+pub mod Written
+pub mod Steps
+pub mod Examples

@@ -1,0 +1,42 @@
+-- 01, "Text lines": the line of a reply.
+use Prim.Native.Nat.{ℕ}
+use mathlib.Core.List.{List, [], _∷_, _++_}
+use lib.Dec.{eqb}
+use Rattle.weight.specs.Choice.{if_then_else_}
+use Rattle.line.specs.declared.reply.Done.{Done as DoneFields}
+use Rattle.line.specs.declared.reply.Reply.{Reply}
+use Rattle.line.specs.declared.reply.Reply.the-variants.{Refused, Done}
+use Rattle.print.specs.Text.{plain, lf, decimal, signed, none, field, joined}
+
+-- 255 stands for none
+abbrev pub errorText : ℕ → List ℕ
+errorText error = if eqb error 255 then none else decimal error
+
+-- what the line shows after the event
+abbrev pub shown : DoneFields → List (List ℕ)
+shown d =
+    field "status" (decimal (d .status))
+    ∷ field "busy" (decimal (d .busy))
+    ∷ field "conveyor" (decimal (d .conveyor))
+    ∷ field "sorter" (decimal (d .sorter))
+    ∷ []
+
+-- what the event did, and the error after it
+abbrev pub did : DoneFields → List (List ℕ)
+did d =
+    field "detected" (decimal (d .detected))
+    ∷ field "outcome" (decimal (d .outcome))
+    ∷ field "net" (signed (d .net))
+    ∷ field "tallied" (decimal (d .tallied))
+    ∷ field "error" (errorText (d .error))
+    ∷ []
+
+unfoldable pub doneText : DoneFields → List ℕ
+doneText d = joined (plain " ") (shown d ++ did d) ++ lf
+
+unfoldable pub refusedText : ℕ → ℕ → List ℕ
+refusedText number input = joined (plain " ") (field "refused" (decimal number) ∷ field "input" (decimal input) ∷ []) ++ lf
+
+abbrev pub replyText : Reply → List ℕ
+replyText (Refused number input) = refusedText number input
+replyText (Done d) = doneText d

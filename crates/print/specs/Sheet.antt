@@ -1,0 +1,47 @@
+-- 01, "Text lines": a sheet, "one field a line".
+use Prim.Native.Nat.{ℕ}
+use mathlib.Core.List.{List, [], _∷_, _++_}
+use Rattle.weight.specs.declared.Figure.{Figure}
+use Rattle.weight.specs.declared.Figure.the-variants.{None, Of}
+use Rattle.spread.specs.declared.Spread.{Spread}
+use Rattle.spread.specs.declared.Spread.the-variants.{None as NoSpread, Of as SpreadOf}
+use Rattle.sheet.specs.declared.sheet.Sheet.{Sheet}
+use Rattle.print.specs.Text.{lf, decimal, signed, none, field, joined}
+
+abbrev pub figureText : Figure → List ℕ
+figureText None = none
+figureText (Of v) = signed v
+
+abbrev pub spreadText : Spread → List ℕ
+spreadText NoSpread = none
+spreadText (SpreadOf n) = decimal n
+
+abbrev pub totals : ℕ → Sheet → List (List ℕ)
+totals code s = field "code" (decimal code) ∷ field "total" (decimal (s .total)) ∷ field "ng" (decimal (s .ng)) ∷ []
+
+abbrev pub grades : Sheet → List (List ℕ)
+grades s =
+    field "lolo" (decimal (s .lolo))
+    ∷ field "lo" (decimal (s .lo))
+    ∷ field "ok" (decimal (s .ok))
+    ∷ field "hi" (decimal (s .hi))
+    ∷ field "hihi" (decimal (s .hihi))
+    ∷ []
+
+abbrev pub faults : Sheet → List (List ℕ)
+faults s = field "foreign" (decimal (s .foreign)) ∷ field "double" (decimal (s .double)) ∷ field "crash" (decimal (s .crash)) ∷ []
+
+abbrev pub weights : Sheet → List (List ℕ)
+weights s =
+    field "max" (figureText (s .max))
+    ∷ field "min" (figureText (s .min))
+    ∷ field "sum" (signed (s .sum))
+    ∷ field "mean" (figureText (s .mean))
+    ∷ field "deviation" (figureText (s .deviation))
+    ∷ []
+
+abbrev pub spreads : Sheet → List (List ℕ)
+spreads s = field "sd" (spreadText (s .sd)) ∷ field "sdp" (spreadText (s .sdp)) ∷ []
+
+unfoldable pub sheetText : ℕ → Sheet → List ℕ
+sheetText code s = joined lf (totals code s ++ (grades s ++ (faults s ++ (weights s ++ spreads s)))) ++ lf

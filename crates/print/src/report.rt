@@ -1,0 +1,85 @@
+// The eighteen lines of a code's sheet.
+ghost use mathlib.Core.Path.{_≡_};
+ghost use Prim.Native.Nat.{_+_, _≤_};
+ghost use lib.ListN.{length};
+ghost use Rattle.print.specs.Text.{lf, ahead, joined};
+ghost use Rattle.print.specs.Sheet.{totals, grades, faults, weights, spreads, sheetText};
+ghost use Rattle.print.specs.Written.{written, lengthWritten};
+ghost use Rattle.print.specs.Steps.{Wrote};
+use crate::field::put_count;
+use crate::field::put_figure;
+use crate::field::put_number;
+use crate::field::put_spread;
+use crate::text::put;
+use sheet::Sheet;
+
+// The sheet of a code as eighteen lines at the front of `out`, and their length. They have at most 466 bytes: a buffer of
+// fewer than 1024 is left as it is, and the answer is 0.
+pub fn sheet_lines(out: &mut [u8], code: u64, s: Sheet) -> usize
+    ensures { λ n. ⌜ n ≡ lengthWritten 1024 (sheetText code s) (now (out .entry)) ⌝ }
+    ensures { λ _. ⌜ now (out .exit) ≡ written 1024 (sheetText code s) (now (out .entry)) ⌝ }
+{
+    if out.len() < 1024 {
+        return 0;
+    }
+    let a = put_totals(out, code, s);
+    let b = put_grades(out, a, s);
+    let c = put_faults(out, b, s);
+    let d = put_weights(out, c, s);
+    let e = put_spreads(out, d, s);
+    put(out, e, b"\n")
+}
+
+fn put_totals(out: &mut [u8], code: u64, s: Sheet) -> usize
+    requires { ⌜ 76 ≤ length (now out) ⌝ }
+    ensures { λ r. ⌜ Wrote (now (out .entry)) 0 (joined lf (totals code s)) 76 (now (out .exit)) r ⌝ }
+{
+    let a = put_count(out, 0, b"code=", code);
+    let b = put_count(out, a, b"\ntotal=", s.total);
+    put_count(out, b, b"\nng=", s.ng)
+}
+
+fn put_grades(out: &mut [u8], at: usize, s: Sheet) -> usize
+    requires { ⌜ at + 124 ≤ length (now out) ⌝ }
+    ensures { λ r. ⌜ Wrote (now (out .entry)) at (ahead lf (grades s)) 124 (now (out .exit)) r ⌝ }
+{
+    let a = put_count(out, at, b"\nlolo=", s.lolo);
+    let b = put_count(out, a, b"\nlo=", s.lo);
+    let c = put_count(out, b, b"\nok=", s.ok);
+    let d = put_count(out, c, b"\nhi=", s.hi);
+    put_count(out, d, b"\nhihi=", s.hihi)
+}
+
+fn put_faults(out: &mut [u8], at: usize, s: Sheet) -> usize
+    requires { ⌜ at + 84 ≤ length (now out) ⌝ }
+    ensures { λ r. ⌜ Wrote (now (out .entry)) at (ahead lf (faults s)) 84 (now (out .exit)) r ⌝ }
+{
+    let a = put_count(out, at, b"\nforeign=", s.foreign);
+    let b = put_count(out, a, b"\ndouble=", s.double);
+    put_count(out, b, b"\ncrash=", s.crash)
+}
+
+fn put_weights(out: &mut [u8], at: usize, s: Sheet) -> usize
+    requires { ⌜ at + 132 ≤ length (now out) ⌝ }
+    ensures { λ r. ⌜ Wrote (now (out .entry)) at (ahead lf (weights s)) 132 (now (out .exit)) r ⌝ }
+{
+    let max = s.max;
+    let min = s.min;
+    let mean = s.mean;
+    let deviation = s.deviation;
+    let a = put_figure(out, at, b"\nmax=", max);
+    let b = put_figure(out, a, b"\nmin=", min);
+    let c = put_number(out, b, b"\nsum=", s.sum);
+    let d = put_figure(out, c, b"\nmean=", mean);
+    put_figure(out, d, b"\ndeviation=", deviation)
+}
+
+fn put_spreads(out: &mut [u8], at: usize, s: Sheet) -> usize
+    requires { ⌜ at + 49 ≤ length (now out) ⌝ }
+    ensures { λ r. ⌜ Wrote (now (out .entry)) at (ahead lf (spreads s)) 49 (now (out .exit)) r ⌝ }
+{
+    let sd = s.sd;
+    let sdp = s.sdp;
+    let a = put_spread(out, at, b"\nsd=", sd);
+    put_spread(out, a, b"\nsdp=", sdp)
+}

@@ -1,0 +1,67 @@
+// Text at a place of a lent buffer. Each function answers the place behind what it wrote.
+ghost use mathlib.Core.Path.{_≡_};
+ghost use Prim.Native.Nat.{_+_, _≤_, _<_};
+ghost use lib.ListN.{length};
+ghost use Rattle.print.specs.Text.{decimal, signed};
+ghost use Rattle.print.specs.Steps.{Wrote};
+use weight::size;
+
+pub(crate) fn put(out: &mut [u8], at: usize, text: &[u8]) -> usize
+    requires { ⌜ at + length (now text) ≤ length (now out) ⌝ }
+    ensures { λ r. ⌜ Wrote (now (out .entry)) at (now (text .entry)) (length (now (text .entry))) (now (out .exit)) r ⌝ }
+{
+    let mut j = 0;
+    while j < text.len() {
+        out[at + j] = text[j];
+        j += 1;
+    }
+    at + j
+}
+
+// n in decimal: how many digits there are is found first, so that each is stored at its place, the last one first.
+pub(crate) fn put_decimal(out: &mut [u8], at: usize, n: u64) -> usize
+    requires { ⌜ at + length (decimal n) ≤ length (now out) ⌝ }
+    ensures { λ r. ⌜ Wrote (now (out .entry)) at (decimal n) (length (decimal n)) (now (out .exit)) r ⌝ }
+{
+    let end = at + width(n);
+    let mut place = end;
+    let mut m = n;
+    while 10 <= m {
+        place -= 1;
+        out[place] = digit(m % 10);
+        m /= 10;
+    }
+    out[at] = digit(m);
+    end
+}
+
+pub(crate) fn put_signed(out: &mut [u8], at: usize, v: i64) -> usize
+    requires { ⌜ at + 20 ≤ length (now out) ⌝ }
+    ensures { λ r. ⌜ Wrote (now (out .entry)) at (signed v) 20 (now (out .exit)) r ⌝ }
+{
+    if 0 <= v {
+        return put_decimal(out, at, size(v));
+    }
+    out[at] = b'-';
+    put_decimal(out, at + 1, size(v))
+}
+
+// How many digits n has.
+fn width(n: u64) -> usize
+    ensures { λ r. ⌜ r ≡ length (decimal n) ⌝ }
+{
+    let mut digits = 1;
+    let mut m = n;
+    while 10 <= m {
+        m /= 10;
+        digits += 1;
+    }
+    digits
+}
+
+fn digit(n: u64) -> u8
+    requires { ⌜ n < 10 ⌝ }
+    ensures { λ r. ⌜ r ≡ 48 + n ⌝ }
+{
+    (48 + n) as u8
+}
