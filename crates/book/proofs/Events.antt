@@ -1,19 +1,15 @@
 -- Each of the twelve kinds of event, accepted, goes with the book; a refused one changes nothing. Assumes nothing.
-use mathlib.Core.Path.{_≡_, refl, sym, ap, subst, _∙_}
-use mathlib.Core.Logic.{_≢_}
+use mathlib.Core.Path.{_≡_, refl, sym, subst}
 use mathlib.Core.Bool.{Bool, true, false, _&&_, _||_, not, and-false, and-true, or-true}
 use mathlib.Core.List.{List, [], _∷_}
-use Prim.Native.Nat.{ℕ, suc, _≤_, _<_}
+use Prim.Native.Nat.{ℕ}
 use native.Mathlib.Omega.{arith}
-use lib.Dec.{T, eqb, ltb, leb}
-use lib.IntN.{ℤ, pos}
-use lib.ListN.{length, getD, set}
-use borrow.Author.Tests.{eqb-true, eqb-false, eq-eqb, ne-eqb, leb-true, le-leb, not-true, not-false}
-use Rattle.weight.specs.Choice.{if_then_else_, within}
+use lib.Dec.{T, eqb, leb}
+use lib.IntN.{ℤ}
+use borrow.Author.Tests.{eqb-true, eqb-false, ne-eqb, leb-true, not-true, not-false}
 use Rattle.weight.proofs.Tests.{both, and-intro, if-ind, by-cases}
-use Rattle.settings.specs.Settings.{recordFit}
 use Rattle.settings.specs.declared.Settings.{Settings}
-use Rattle.event.specs.Setup.{setupRanged, edgeAgrees, setupFit}
+use Rattle.event.specs.Setup.{setupFit}
 use Rattle.event.specs.Event.{eventRanged, eventAgrees}
 use Rattle.event.specs.declared.Event.{Event}
 use Rattle.event.specs.declared.Event.the-variants.{Sample, Run, Stop, Emergency, Recall, Cancel, ClearCode, ClearAll, ErrorReset, NoOperation, Setup, Store}
@@ -22,13 +18,13 @@ use Rattle.event.proofs.Facts.{in-range}
 use Rattle.device.specs.Sorter.{sorting}
 use Rattle.tally.specs.Tally.{emptyTally}
 use Rattle.tally.specs.Memory.{withTally, zeros, talliesLength}
-use Rattle.line.specs.Line.{stopped, paused, emergency, noError, inHand, isRunning, busy, withStatus, withCode, withSetup, withUndo}
-use Rattle.line.specs.Fit.{errorKnown, statusFit, itemFit, undoFit}
+use Rattle.line.specs.Line.{stopped, paused, emergency, noError, inHand, isRunning, busy, withStatus, withSetup, withUndo}
+use Rattle.line.specs.Fit.{errorKnown, statusFit, itemFit}
 use Rattle.line.specs.Effect.{plain, halting, replied}
 use Rattle.line.specs.Sample.{sampled}
 use Rattle.line.specs.Command.{ran, stopping, alarmed}
 use Rattle.line.specs.Refusal.{statusWrong, nothingToCancel, noChance}
-use Rattle.line.specs.Tallying.{Out, isVerdict, untallied, cancelled, recalled, codeCleared, clearedOne, clearedAll}
+use Rattle.line.specs.Tallying.{isVerdict, untallied, cancelled, recalled, codeCleared, clearedOne, clearedAll}
 use Rattle.line.specs.Step.{accepted}
 use Rattle.line.specs.declared.line.Undo.{Undo}
 use Rattle.line.specs.declared.line.Undo.the-variants.{Nothing, Kept}
@@ -37,14 +33,13 @@ use Rattle.line.specs.declared.item.Item.the-variants.{None, Waiting, Averaging
 use Rattle.line.specs.declared.line.Line.{Line}
 use Rattle.line.specs.declared.effect.Effect.{Effect}
 use Rattle.line.proofs.Facts.{FitLine}
-use Rattle.line.proofs.Accepted.{Accepted, Sound, sound-tells}
+use Rattle.line.proofs.Accepted.{Accepted, sound-tells}
 use Rattle.book.specs.Book as book
-use Rattle.book.specs.Book.{Book, Verdict, Pages, turned, lastOff, talliedBy}
-use Rattle.book.specs.Page.{tallyOfPage}
+use Rattle.book.specs.Book.{Verdict, Pages, turned, lastOff, talliedBy}
 use Rattle.line.proofs.Moves as moves
-use Rattle.line.proofs.Ticks.{Went, hand, plain-goes, sample-goes, run-goes, stop-goes, emergency-goes}
+use Rattle.line.proofs.Ticks.{hand, sample-goes, run-goes, stop-goes, emergency-goes}
 use Rattle.book.proofs.Pages.{Fine, none, more, page-none}
-use Rattle.book.proofs.Sheets.{chanceOf, beside, Back, Page, Sheets, Goes, put-sheet, zero-sheets, quiet, sample-sheets, with-undo, nothing-fit, turned-same}
+use Rattle.book.proofs.Sheets.{chanceOf, beside, Back, Page, Sheets, Goes, put-sheet, zero-sheets, quiet, sample-sheets, with-undo, nothing-fit}
 
 -- ---- outcomes that are no verdict
 

@@ -1,13 +1,13 @@
 -- Demand 3: what holds of a fresh line and memory is kept by every event, so it holds after every list. Assumes nothing.
-use mathlib.Core.Path.{_≡_, refl, sym, ap, subst, _∙_}
+use mathlib.Core.Path.{_≡_, refl, sym, subst, _∙_}
 use mathlib.Core.Logic.{_≢_}
-use mathlib.Core.Bool.{Bool, true, false, _&&_, _||_, not, or-true}
+use mathlib.Core.Bool.{Bool, true, false, not, or-true}
 use mathlib.Core.List.{List, [], _∷_}
-use Prim.Native.Nat.{ℕ, suc, _+_, _*_, _≤_, _<_}
+use Prim.Native.Nat.{ℕ, _+_, _*_, _≤_}
 use native.Mathlib.Omega.{arith}
 use lib.Dec.{T, eqb, leb}
-use lib.IntN.{ℤ, pos}
-use lib.ListN.{length, getD, set, replicate, length-set, length-replicate, getD-replicate}
+use lib.IntN.{ℤ}
+use lib.ListN.{length, getD, replicate, length-set, length-replicate, getD-replicate}
 use lib.Seq.{getD-set-same, getD-set-other}
 use borrow.Author.Tests.{eqb-true, eqb-false, eq-eqb, leb-true}
 use Rattle.weight.specs.Choice.{if_then_else_}
@@ -20,31 +20,31 @@ use Rattle.event.specs.Event.{eventRanged, eventAgrees}
 use Rattle.event.specs.declared.Event.{Event}
 use Rattle.event.specs.declared.Event.the-variants.{Sample, Run, Stop, Emergency, Recall, Cancel, ClearCode, ClearAll, ErrorReset, NoOperation, Setup, Store}
 use Rattle.tally.specs.Tally.{hasRoom}
-use Rattle.tally.specs.Memory.{tallyAt, tallyAtFit, withTally, zeros, talliesLength}
+use Rattle.tally.specs.Memory.{tallyAt, withTally}
 use Rattle.line.specs.Line.{freshLine, inHand, busy, withUndo}
-use Rattle.line.specs.Fit.{lastFit, sensorFit, errorKnown, statusFit, itemFit, undoFit, lineFit}
+use Rattle.line.specs.Fit.{lastFit, sensorFit, errorKnown, statusFit, itemFit, undoFit}
 use Rattle.line.specs.Effect.{bit, plain, replied}
-use Rattle.line.specs.Refusal.{readsRecord, readsTally, memorySound, statusWrong, runUnsafe, runOccupied, nothingToCancel, noChance, refusalOf, isRun, inputOf}
+use Rattle.line.specs.Refusal.{readsRecord, readsTally, memorySound, statusWrong, runUnsafe, runOccupied, nothingToCancel, noChance, refusalOf}
 use Rattle.line.specs.Tallying.{Out, isVerdict, untallied, tallied, passedOver, noted, recorded, cancelled}
 use Rattle.line.specs.Sample.{sampled}
-use Rattle.line.specs.Step.{accepted, refused, unlessRefused, stepOf, stored, activeOf, stepOn, settingsAfter}
+use Rattle.line.specs.Step.{accepted, refused, stepOf, stored, activeOf, settingsAfter}
 use Rattle.line.specs.declared.line.Undo.{Undo}
 use Rattle.line.specs.declared.line.Undo.the-variants.{Nothing, Kept}
 use Rattle.line.specs.declared.line.Line.{Line}
 use Rattle.line.specs.declared.effect.Effect.{Effect}
 use Rattle.line.specs.declared.reply.Reply.{Reply}
 use Rattle.line.specs.declared.reply.Reply.the-variants.{Refused, Done}
-use Rattle.line.proofs.Facts.{FitLine, fit-tells, tells-fit}
-use Rattle.line.proofs.Accepted.{Accepted, accepted-tells}
+use Rattle.line.proofs.Facts.{FitLine, tells-fit}
+use Rattle.line.proofs.Accepted.{accepted-tells}
 use Rattle.book.specs.Book as book
-use Rattle.book.specs.Book.{Book, Pages, talliedBy}
+use Rattle.book.specs.Book.{Pages, talliedBy}
 use Rattle.book.specs.Run.{Turn, World, freshWorld, answer, after, runFrom, run, bookOf}
-use Rattle.book.specs.Boxes.{detectedBy, outcomeOf, sumOver, detectedIn, judgedIn, outcomesIn, isJudged, inHandAfter}
-use Rattle.book.specs.Claim.{refusalIn, talliedIn, Stands, Claim}
+use Rattle.book.specs.Boxes.{detectedBy, outcomeOf, sumOver, detectedIn, judgedIn, outcomesIn, inHandAfter}
+use Rattle.book.specs.Claim.{refusalIn, Stands, Claim}
 use Rattle.line.proofs.Moves as moves
 use Rattle.book.proofs.Level.{Level, level}
 use Rattle.line.proofs.Ticks.{hand}
-use Rattle.book.proofs.Sheets.{chanceOf, beside, Back, Sheets, Goes, zero-sheets}
+use Rattle.book.proofs.Sheets.{chanceOf, beside, Goes, zero-sheets}
 use Rattle.book.proofs.Events.{Given, accepted-goes}
 
 -- ---- the settings records stay fit

@@ -4,7 +4,7 @@ use mathlib.Core.Path.{_≡_, refl}
 use mathlib.Core.List.{List, [], _∷_, map}
 use lib.IntN.{ℤ, pos}
 use Rattle.event.specs.declared.Event.{Event}
-use Rattle.event.specs.declared.Event.the-variants.{Sample, Run, Stop, Emergency, Recall, Cancel, ClearCode, ClearAll, ErrorReset, NoOperation, Setup, Store}
+use Rattle.event.specs.declared.Event.the-variants.{Sample, Run, ClearCode, Setup, Store}
 use Rattle.line.specs.declared.reply.Reply.{Reply}
 use Rattle.line.specs.declared.reply.Reply.the-variants.{Refused, Done}
 use Rattle.book.specs.Run.{run, runFrom, Turn}

@@ -1,12 +1,12 @@
 -- The boxes of one event: what was in hand and what was detected is judged, two-on, dismissed, abandoned or in hand after it. Assumes nothing.
-use mathlib.Core.Path.{_≡_, refl, ap}
-use mathlib.Core.Bool.{Bool, true, false, _&&_, _||_, not}
+use mathlib.Core.Path.{_≡_, refl}
+use mathlib.Core.Bool.{_&&_, not}
 use Prim.Native.Nat.{ℕ, _+_, _*_}
 use native.Mathlib.Omega.{arith}
 use lib.Dec.{eqb}
-use Rattle.weight.specs.Choice.{if_then_else_, within}
+use Rattle.weight.specs.Choice.{if_then_else_}
 use Rattle.line.specs.Effect.{bit}
-use Rattle.line.proofs.Moves.{Judged, Moves, still, judged, judged-next, dismissed, dismissed-next, two-on, abandoned, detected}
+use Rattle.line.proofs.Moves.{Moves, still, judged, judged-next, dismissed, dismissed-next, two-on, abandoned, detected}
 use Rattle.book.specs.Boxes.{isJudged}
 
 abbrev is : ℕ → ℕ → ℕ

@@ -1,21 +1,20 @@
 -- The tally of a page: one more verdict, its total, its fitness. Assumes nothing.
-use mathlib.Core.Path.{_≡_, refl, sym, ap, subst, _∙_}
+use mathlib.Core.Path.{_≡_, refl, sym}
 use mathlib.Core.Bool.{Bool, true, false, _&&_}
 use mathlib.Core.List.{List, [], _∷_}
-use Prim.Native.Nat.{ℕ, zero, suc, _+_, _*_, _≤_, _<_}
+use Prim.Native.Nat.{ℕ, suc, _+_, _*_, _≤_}
 use native.Mathlib.Nat.{mul-le-mul}
-use native.Mathlib.Numerals.{add-one}
 use native.Mathlib.Omega.{arith}
-use lib.Dec.{T, leb, ltb, eqb}
-use lib.IntN.{ℤ, pos, natAbs, _+ℤ_}
+use lib.Dec.{ltb, eqb}
+use lib.IntN.{ℤ, natAbs, _+ℤ_}
 use lib.ListN.{length}
 use lib.Signed.{ltZ}
-use borrow.Author.Tests.{leb-true, le-leb, lt-leb, eq-eqb, ne-eqb}
+use borrow.Author.Tests.{leb-true, le-leb, eq-eqb, ne-eqb}
 use Rattle.weight.specs.Choice.{if_then_else_, within}
 use Rattle.weight.specs.Weight.{isWeight}
-use Rattle.weight.proofs.Tests.{both, and-intro, if-ind}
+use Rattle.weight.proofs.Tests.{and-intro, if-ind}
 use Rattle.weight.proofs.Signed.{abs-add}
-use Rattle.tally.specs.Tally.{graded, total, emptyTally, tallyFit, hasRoom, isGrade, one, largestWith, smallestWith, countedWith, weighedWith, added}
+use Rattle.tally.specs.Tally.{graded, total, emptyTally, tallyFit, hasRoom, one, largestWith, smallestWith, countedWith, weighedWith, added}
 use Rattle.tally.specs.declared.tally.Tally.{Tally}
 use Rattle.tally.proofs.Ones.{ones, grade-ones}
 use Rattle.book.specs.Book.{Verdict, isVerdict}

@@ -1,34 +1,28 @@
 -- The tallies are those of the pages: kept by each event. Assumes nothing.
 use mathlib.Core.Path.{_≡_, refl, sym, ap, subst, _∙_}
-use mathlib.Core.Logic.{_≢_}
-use mathlib.Core.Bool.{Bool, true, false, _&&_, _||_, not, and-false, and-true, or-true}
+use mathlib.Core.Bool.{Bool, true, false}
 use mathlib.Core.List.{List, [], _∷_}
-use Prim.Native.Nat.{ℕ, suc, _≤_, _<_}
+use Prim.Native.Nat.{ℕ, _≤_}
 use native.Mathlib.Omega.{arith}
-use lib.Dec.{T, eqb, ltb, leb}
-use lib.IntN.{ℤ, pos}
-use lib.ListN.{length, getD, set, replicate}
-use borrow.Author.Tests.{eqb-true, eqb-false, eq-eqb, ne-eqb, leb-true, ltb-true, le-leb}
-use Rattle.weight.specs.Choice.{if_then_else_, within}
-use Rattle.weight.specs.Weight.{isWeight}
-use Rattle.weight.proofs.Tests.{both, and-intro, if-ind, by-cases}
-use Rattle.settings.specs.Settings.{blank, recordFit, settingsLength}
-use Rattle.settings.specs.declared.Settings.{Settings}
+use lib.Dec.{eqb, ltb}
+use lib.IntN.{ℤ}
+use lib.ListN.{length}
+use borrow.Author.Tests.{eqb-true, eqb-false, eq-eqb, leb-true, ltb-true}
+use Rattle.weight.specs.Choice.{if_then_else_}
+use Rattle.weight.proofs.Tests.{if-ind, by-cases}
 use Rattle.event.specs.declared.Event.{Event}
-use Rattle.event.specs.declared.Event.the-variants.{Sample, Run, Stop, Emergency, Recall, Cancel, ClearCode, ClearAll, ErrorReset, NoOperation, Setup, Store}
-use Rattle.tally.specs.Tally.{emptyTally, tallyFit, hasRoom, added}
+use Rattle.tally.specs.Tally.{tallyFit, hasRoom, added}
 use Rattle.tally.specs.Memory.{tallyAt, tallyAtFit, withTally, zeros, talliesLength}
 use Rattle.tally.specs.declared.tally.Tally.{Tally}
 use Rattle.tally.proofs.Parts.{length-kept, tally-same, fit-same, tally-other, fit-other, tally-zeros, fit-zeros, length-zeros}
 use Rattle.line.specs.Line.{busy, withUndo}
 use Rattle.line.specs.Fit.{undoFit, statusFit}
-use Rattle.line.specs.Effect.{plain, replied}
-use Rattle.line.specs.Tallying.{Out, isVerdict, untallied, tallied, passedOver, noted, recorded}
+use Rattle.line.specs.Effect.{replied}
+use Rattle.line.specs.Tallying.{Out, isVerdict, untallied, tallied, noted, recorded}
 use Rattle.line.specs.declared.line.Undo.{Undo}
 use Rattle.line.specs.declared.line.Undo.the-variants.{Nothing, Kept}
 use Rattle.line.specs.declared.line.Line.{Line}
 use Rattle.line.specs.declared.effect.Effect.{Effect}
-use Rattle.line.specs.declared.reply.Reply.{Reply}
 use Rattle.line.proofs.Facts.{FitLine}
 use Rattle.book.specs.Book as book
 use Rattle.book.specs.Book.{Book, Verdict, Pages, turned, lastOff, hasPlace, entered, talliedBy}
@@ -37,7 +31,7 @@ use Rattle.book.specs.Boxes.{detectedBy, outcomeOf}
 use Rattle.book.specs.Claim.{talliedIn}
 use Rattle.line.proofs.Moves.{Moves}
 use Rattle.line.proofs.Ticks.{Went, hand}
-use Rattle.book.proofs.Pages.{Proper, Fine, none, more, page-more, page-fit, page-room, page-none}
+use Rattle.book.proofs.Pages.{Fine, none, more, page-more, page-fit, page-room, page-none}
 
 abbrev pub chanceOf : Undo → Bool
 chanceOf Nothing = false

@@ -1,6 +1,6 @@
 -- 01, "For demand 3, over the replies (refused: detected and outcome 0)": the balance of the boxes.
-use Prim.Native.Nat.{ℕ, _+_, _*_}
-use mathlib.Core.Bool.{Bool, _&&_, _||_, not}
+use Prim.Native.Nat.{ℕ, _+_}
+use mathlib.Core.Bool.{_&&_, _||_, not}
 use mathlib.Core.List.{List, [], _∷_}
 use lib.Dec.{eqb}
 use Rattle.weight.specs.Choice.{if_then_else_, within}

@@ -1,6 +1,5 @@
 -- 01, "Counts are by outcome; n, S, Q, largest and smallest (0 if none) are over the nets of outcomes 1 to 5."
 use Prim.Native.Nat.{ℕ, _+_, _*_}
-use mathlib.Core.Bool.{Bool, true, false}
 use mathlib.Core.List.{List, [], _∷_}
 use lib.Dec.{eqb}
 use lib.IntN.{ℤ, pos, natAbs, _+ℤ_}

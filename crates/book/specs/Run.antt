@@ -1,5 +1,4 @@
 -- A list of events from a fresh line and fresh memory: each event finds the line and the memories as the one before left them.
-use Prim.Native.Nat.{ℕ}
 use mathlib.Core.List.{List, [], _∷_}
 use lib.IntN.{ℤ}
 use lib.ListN.{replicate}

@@ -1,12 +1,11 @@
 -- What a tick keeps: times stay from 0 to 9,999, levels 0 or 1. Assumes nothing.
 use mathlib.Core.Path.{_≡_, refl}
-use mathlib.Core.Bool.{Bool, true, false, _&&_, not}
+use mathlib.Core.Bool.{Bool, true, _&&_, not}
 use mathlib.Core.List.{List, [], _∷_, map}
-use Prim.Native.Nat.{ℕ, suc, _+_, _-_, _≤_, max}
+use Prim.Native.Nat.{ℕ, _+_, _-_, _≤_, max}
 use native.Mathlib.Omega.{arith}
 use lib.Dec.{leb, eqb}
-use borrow.Author.Tests.{leb-true, le-leb, leb-false, lt-leb}
-use Rattle.weight.specs.Choice.{if_then_else_}
+use borrow.Author.Tests.{leb-true, le-leb, leb-false}
 use Rattle.weight.proofs.Tests.{both, and-intro, if-ind}
 use Rattle.device.specs.Sensor.{settled}
 use Rattle.device.specs.Sorter.{anyEnds, fallen, sorterTicked, placed, queued, sorterOff, waitsFit, sorterFit}

@@ -3,7 +3,6 @@ use mathlib.Core.Path.{_≡_}
 use mathlib.Core.Bool.{Bool, true, _&&_}
 use Prim.Native.Nat.{_≤_, _%_}
 use lib.Dec.{leb, eqb}
-use lib.IntN.{natAbs}
 use borrow.Author.Tests.{leb-true}
 use Rattle.weight.specs.Choice.{within}
 use Rattle.weight.specs.Weight.{isWeight}

@@ -1,8 +1,8 @@
 -- What the fitness of a line tells, part by part, and back. Assumes nothing.
-use mathlib.Core.Path.{_≡_, refl, sym}
-use mathlib.Core.Bool.{Bool, true, false, _&&_, _||_, not}
-use lib.Dec.{eqb, leb}
-use Rattle.weight.proofs.Tests.{both, and-intro}
+use mathlib.Core.Path.{_≡_}
+use mathlib.Core.Bool.{true}
+use lib.Dec.{leb}
+use Rattle.weight.proofs.Tests.{both}
 use Rattle.device.specs.Sorter.{sorterFit}
 use Rattle.event.specs.Setup.{setupFit}
 use Rattle.event.specs.Event.{isCode}

@@ -1,12 +1,12 @@
 -- The item in hand: it stays fit tick by tick, and its mean is a weight. Assumes nothing.
-use mathlib.Core.Path.{_≡_, refl, sym, ap}
-use mathlib.Core.Bool.{Bool, true, false, _&&_}
+use mathlib.Core.Path.{_≡_, refl}
+use mathlib.Core.Bool.{true}
 use Prim.Native.Nat.{ℕ, _+_, _-_, _*_, _≤_, _<_}
 use native.Mathlib.Omega.{arith}
 use lib.Dec.{leb, ltb, eqb}
 use lib.IntN.{ℤ, pos, natAbs, _+ℤ_}
 use borrow.Author.Tests.{leb-true, le-leb, ltb-true, ltb-false, eqb-false}
-use Rattle.weight.specs.Choice.{if_then_else_, within}
+use Rattle.weight.specs.Choice.{within}
 use Rattle.weight.specs.Weight.{isWeight}
 use Rattle.weight.specs.Mean.{rounded}
 use Rattle.weight.proofs.Tests.{both, and-intro, if-ind}

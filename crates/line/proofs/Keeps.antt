@@ -1,29 +1,25 @@
 -- Parts of a line are changed and it stays fit. Assumes nothing.
-use mathlib.Core.Path.{_≡_, refl, sym, _∙_}
-use mathlib.Core.Bool.{Bool, true, false, _&&_, _||_, not}
-use Prim.Native.Nat.{ℕ, _≤_}
-use native.Mathlib.Omega.{arith}
+use mathlib.Core.Path.{_≡_, refl}
+use mathlib.Core.Bool.{Bool, true, _&&_, _||_, not}
+use Prim.Native.Nat.{ℕ}
 use lib.Dec.{leb, eqb}
-use lib.IntN.{ℤ}
 use borrow.Author.Tests.{leb-true, le-leb, eqb-true}
 use Rattle.weight.proofs.Tests.{both, and-intro, if-ind}
 use Rattle.mask.specs.Bits.{marked}
 use Rattle.device.specs.Sorter.{sorterFit, sorting, waiting, sorterOff, sorterTicked, queued}
-use Rattle.device.specs.Foreign.{foreignTicked, flagUsed}
+use Rattle.device.specs.Foreign.{foreignTicked}
 use Rattle.device.specs.declared.sorter.Sorter.{Sorter}
 use Rattle.device.specs.declared.foreign.Foreign.{Foreign}
-use Rattle.device.proofs.Keeps.{Settled, settled-keeps, ticked-fit, queued-fit, off-fit, ticked-delay}
-use Rattle.event.specs.Setup.{setupFit}
+use Rattle.device.proofs.Keeps.{settled-keeps, ticked-fit, queued-fit, off-fit, ticked-delay}
 use Rattle.event.specs.declared.Sample.{Sample}
 use Rattle.event.proofs.Facts.{timers, InRange}
-use Rattle.line.specs.Line.{stopped, running, paused, emergency, noError, busy, withStatus, withSorter, withForeign, withItem, withSensed}
+use Rattle.line.specs.Line.{stopped, running, paused, emergency, noError, busy, withStatus, withSorter, withForeign, withItem}
 use Rattle.line.specs.Fit.{lastFit, sensorFit, errorKnown, statusFit, itemFit}
 use Rattle.line.specs.Effect.{halted}
 use Rattle.line.specs.Verdict.{errorFor, sortedFor, stoppedFor}
 use Rattle.line.specs.Sample.{step1, step4, step5}
 use Rattle.line.specs.declared.line.Line.{Line}
 use Rattle.line.specs.declared.item.Item.{Item}
-use Rattle.line.specs.declared.item.Item.the-variants.{None}
 use Rattle.line.proofs.Facts.{FitLine}
 
 -- ---- the status

@@ -1,10 +1,9 @@
 -- What the answers of the tally functions tell, where the line has tested what they test. Assumes nothing.
 use mathlib.Core.Path.{_≡_, refl, sym, _∙_}
-use mathlib.Core.Bool.{Bool, true, false, _&&_}
+use mathlib.Core.Bool.{true, false}
 use mathlib.Core.List.{List}
 use Prim.Native.Nat.{ℕ}
 use native.Mathlib.Omega.{arith}
-use lib.Dec.{leb, eqb}
 use lib.IntN.{ℤ}
 use lib.ListN.{length}
 use borrow.Author.Tests.{eq-eqb}
@@ -15,9 +14,7 @@ use Rattle.event.specs.Event.{isCode}
 use Rattle.tally.specs.Tally.{tallyFit, hasRoom, added, notedOf}
 use Rattle.tally.specs.Memory.{talliesLength, tallyAt, tallyAtFit, lentAt, withTally, written}
 use Rattle.tally.specs.declared.tally.Tally.{Tally}
-use Rattle.tally.specs.declared.tally.Noted.{Noted}
 use Rattle.tally.specs.declared.tally.Noted.the-variants.{Tallied, Untallied}
-use Rattle.tally.specs.declared.memory.Lent.{Lent}
 use Rattle.tally.specs.declared.memory.Lent.the-variants.{Fit, Unfit}
 
 clash : {A : Type 0} → _≡_ {A = ℕ} 0 1 → A

@@ -1,17 +1,16 @@
 -- A sample and the other events on the line alone: the line stays fit and keeps its code and its chance to cancel, the boxes are
 -- level, the net is a weight. Assumes nothing.
-use mathlib.Core.Path.{_≡_, refl, sym, ap, subst, _∙_}
-use mathlib.Core.Bool.{Bool, true, false, _&&_, not}
+use mathlib.Core.Path.{_≡_, refl, sym, subst, _∙_}
+use mathlib.Core.Bool.{Bool, true, false, _&&_}
 use mathlib.Core.Logic.{_⊎_, inl, inr, ⊎-elim}
-use Prim.Native.Nat.{ℕ, _+_}
-use native.Mathlib.Omega.{arith}
-use lib.Dec.{eqb, leb, T}
+use Prim.Native.Nat.{ℕ}
+use lib.Dec.{eqb, T}
 use lib.IntN.{ℤ, pos, _-ℤ_}
 use lib.Signed.{leZ}
 use borrow.Author.Tests.{eqb-true}
 use Rattle.weight.specs.Choice.{if_then_else_}
 use Rattle.weight.specs.Weight.{isWeight}
-use Rattle.weight.proofs.Tests.{both, and-intro, if-ind}
+use Rattle.weight.proofs.Tests.{both, if-ind}
 use Rattle.mask.specs.Bits.{marked, lowestOff}
 use Rattle.settings.specs.Settings.{recordFit}
 use Rattle.settings.specs.Grade.{gradeOf}
@@ -25,13 +24,12 @@ use Rattle.line.specs.Line.{stopped, running, paused, emergency, noError
 use Rattle.line.specs.Fit.{errorKnown, itemFit}
 use Rattle.line.specs.Effect.{bit, plain, halted, halting}
 use Rattle.line.specs.Verdict.{sortedFor, stoppedFor, given, orCrash, verdictOf, judged}
-use Rattle.line.specs.Sample.{step1, step2, step3, step4, step5, step6, step7, weighed, afterWeighing, newItem, detecting, runningTick, guarded, fromStep3, sampled, foreignRises, edgeMade}
+use Rattle.line.specs.Sample.{step1, step2, step3, step4, step5, step6, step7, afterWeighing, newItem, detecting, runningTick, guarded, fromStep3, sampled, foreignRises}
 use Rattle.line.specs.Command.{ran, stopping, alarmed}
 use Rattle.line.specs.declared.line.Line.{Line}
 use Rattle.line.specs.declared.effect.Effect.{Effect}
 use Rattle.line.specs.declared.item.Item.the-variants.{None}
 use Rattle.line.specs.declared.item.Weighed.{Weighed}
-use Rattle.line.specs.declared.item.Weighed.the-variants.{Still, Mean}
 use Rattle.line.proofs.Facts.{FitLine}
 use Rattle.line.proofs.Moves as moves
 use Rattle.line.proofs.Moves.{Moves, Judged, grade-judged, foreign-judged, crash-judged}

@@ -1,16 +1,15 @@
 -- What an event does to the line and to a box, before a verdict is tallied; and the reply's fields.
 use Prim.Native.Nat.{ℕ}
 use mathlib.Core.Bool.{Bool, true, false}
-use lib.IntN.{ℤ, pos}
+use lib.IntN.{pos}
 use Rattle.weight.specs.Choice.{if_then_else_}
 use Rattle.device.specs.Sorter.{sorterOff}
 use Rattle.line.specs.Line.{noError, inHand, busy, conveyor, sorterOn}
 use Rattle.line.specs.declared.item.Item.the-variants.{None}
 use Rattle.line.specs.declared.line.Line.{Line}
 use Rattle.line.specs.declared.effect.Effect.{Effect}
-use Rattle.line.specs.declared.reply.Done.{Done}
 use Rattle.line.specs.declared.reply.Reply.{Reply}
-use Rattle.line.specs.declared.reply.Reply.the-variants.{Refused, Done as done}
+use Rattle.line.specs.declared.reply.Reply.the-variants.{Done as done}
 
 -- an effect on the line alone
 abbrev pub plain : Line → Effect

@@ -1,9 +1,9 @@
 -- 01, "A line is fit if": every call tests it, and no event of a list from a fresh line ever finds it unfit.
 use Prim.Native.Nat.{ℕ, _-_, _*_}
-use mathlib.Core.Bool.{Bool, true, false, _&&_, _||_, not}
+use mathlib.Core.Bool.{Bool, true, _&&_, _||_, not}
 use lib.Dec.{eqb, leb}
-use lib.IntN.{ℤ, natAbs}
-use Rattle.weight.specs.Choice.{if_then_else_, within}
+use lib.IntN.{natAbs}
+use Rattle.weight.specs.Choice.{within}
 use Rattle.weight.specs.Weight.{isWeight}
 use Rattle.device.specs.Sorter.{sorterFit}
 use Rattle.device.specs.declared.sensor.Sensor.{Sensor}

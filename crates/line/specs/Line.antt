@@ -2,8 +2,7 @@
 use Prim.Native.Nat.{ℕ}
 use mathlib.Core.Bool.{Bool, true, false, _&&_, _||_, not}
 use lib.Dec.{eqb, ltb}
-use lib.IntN.{ℤ, pos}
-use Rattle.weight.specs.Choice.{if_then_else_}
+use lib.IntN.{pos}
 use Rattle.device.specs.Sorter.{sorting, sorterOff}
 use Rattle.device.specs.Foreign.{noSignal}
 use Rattle.device.specs.declared.sensor.Sensor.{Sensor}
@@ -13,7 +12,7 @@ use Rattle.event.specs.declared.Setup.{Setup}
 use Rattle.line.specs.declared.item.Item.{Item}
 use Rattle.line.specs.declared.item.Item.the-variants.{None, Waiting, Averaging}
 use Rattle.line.specs.declared.line.Undo.{Undo}
-use Rattle.line.specs.declared.line.Undo.the-variants.{Nothing, Kept}
+use Rattle.line.specs.declared.line.Undo.the-variants.{Nothing}
 use Rattle.line.specs.declared.line.Last.{Last}
 use Rattle.line.specs.declared.line.Line.{Line}
 

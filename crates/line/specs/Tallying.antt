@@ -3,7 +3,7 @@ use Prim.Native.Nat.{ℕ}
 use mathlib.Core.Bool.{Bool}
 use mathlib.Core.List.{List}
 use lib.Dec.{eqb}
-use lib.IntN.{ℤ, pos}
+use lib.IntN.{ℤ}
 use Rattle.weight.specs.Choice.{if_then_else_, within}
 use Rattle.tally.specs.Tally.{emptyTally, hasRoom, added}
 use Rattle.tally.specs.Memory.{tallyAt, withTally, zeros, talliesLength}

@@ -1,7 +1,7 @@
 -- 01, step 6 and the paragraphs "Grade" and "A verdict with its sort bit": the verdict due and what it does.
 -- Verdicts: 1 LoLo, 2 Lo, 3 OK, 4 Hi, 5 HiHi, 6 foreign, 7 two-on, 8 crash.
 use Prim.Native.Nat.{ℕ}
-use mathlib.Core.Bool.{Bool, _&&_}
+use mathlib.Core.Bool.{_&&_}
 use lib.Dec.{eqb}
 use lib.IntN.{ℤ, pos, _-ℤ_}
 use lib.Signed.{leZ}

@@ -105,10 +105,6 @@ impl Line {
         }
     }
 
-    pub(crate) fn is_running(self) -> bool {
-        self.status == Line::RUNNING
-    }
-
     // An item is in hand, the queue isn't empty, or the sorter is on.
     pub(crate) fn busy(self) -> bool
         ensures { λ r. ⌜ r ≡ busy self ⌝ }

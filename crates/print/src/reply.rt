@@ -42,9 +42,9 @@ fn put_done(out: &mut [u8], d: Done) -> usize
     requires { ⌜ 252 ≤ length (now out) ⌝ }
     ensures { λ n. ⌜ Wrote (now (out .entry)) 0 (doneText d) 252 (now (out .exit)) n ⌝ }
 {
-    let a = put_shown(out, d);
-    let b = put_did(out, a, d);
-    put(out, b, b"\n")
+    let next = put_shown(out, d);
+    let end = put_did(out, next, d);
+    put(out, end, b"\n")
 }
 
 fn put_shown(out: &mut [u8], d: Done) -> usize

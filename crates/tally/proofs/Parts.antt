@@ -1,14 +1,14 @@
 -- The lent memory: what was put is read back, other codes' parts stay, zeros are empty tallies. Assumes nothing.
 use mathlib.Core.Path.{_≡_, refl, sym, ap, _∙_}
-use mathlib.Core.Bool.{Bool, true, false, _&&_}
-use mathlib.Core.List.{List, [], _∷_, _++_, append-assoc}
+use mathlib.Core.Bool.{true}
+use mathlib.Core.List.{List, _++_, append-assoc}
 use mathlib.Core.Logic.{_≢_}
-use Prim.Native.Nat.{ℕ, zero, suc, _+_, _-_, _*_, _≤_, _<_}
+use Prim.Native.Nat.{ℕ, _+_, _-_, _*_, _≤_, _<_}
 use native.Mathlib.Decide.{decLe}
 use native.Mathlib.Omega.{arith}
-use lib.Dec.{leb, leb·zero}
+use lib.Dec.{leb·zero}
 use lib.IntN.{ℤ, pos}
-use lib.ListN.{length, getD, take, drop, replicate, length-drop, length-append, length-replicate, replicate-append-replicate}
+use lib.ListN.{length, take, drop, replicate, length-drop, length-append, length-replicate, replicate-append-replicate}
 use lib.Seq.{take-at, drop-at, length-take-le, take-add, take-take, drop-drop}
 use Rattle.tally.specs.Tally.{tallyFit, emptyTally}
 use Rattle.tally.specs.Memory.{numbers, part, tallyOf, unsigned, tallyAt, tallyAtFit, withTally, zeros, talliesLength}

@@ -1,6 +1,6 @@
 -- 01, "Tallies lie in a second lent slice of numbers, 100 equal parts". A part is thirteen numbers, in the order of `numbers`.
 use Prim.Native.Nat.{ℕ, _+_, _*_}
-use mathlib.Core.Bool.{Bool, true, false, _&&_}
+use mathlib.Core.Bool.{Bool, _&&_}
 use mathlib.Core.List.{List, [], _∷_, _++_}
 use lib.Dec.{leb, eqb}
 use lib.IntN.{ℤ, pos, natAbs}

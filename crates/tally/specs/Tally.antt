@@ -1,7 +1,7 @@
 -- 01, "A code's tally: eight counts; for graded verdicts also number n, sum S, sum of squares Q, largest, smallest".
 -- Verdicts have the numbers 1 LoLo, 2 Lo, 3 OK, 4 Hi, 5 HiHi (the grades), 6 foreign, 7 two-on, 8 crash.
 use Prim.Native.Nat.{ℕ, _+_, _*_}
-use mathlib.Core.Bool.{Bool, true, false, _&&_}
+use mathlib.Core.Bool.{Bool, true, _&&_}
 use lib.Dec.{leb, ltb, eqb}
 use lib.IntN.{ℤ, pos, natAbs, _+ℤ_}
 use lib.Signed.{ltZ}

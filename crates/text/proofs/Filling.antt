@@ -1,5 +1,5 @@
 -- The values of a line, one behind the other: what holds before each item of the form, and how an item keeps it. Assumes nothing.
-use Prim.Native.Nat.{ℕ, suc, _+_, _-_, _≤_, _<_}
+use Prim.Native.Nat.{ℕ, suc, _+_, _≤_, _<_}
 use mathlib.Core.Path.{_≡_, refl, sym, ap, _∙_}
 use mathlib.Core.Bool.{Bool, true, false, not, _&&_}
 use mathlib.Core.List.{List, [], _∷_, _++_, append-assoc, append-nil}
@@ -43,12 +43,12 @@ held-rest g (some v rest) = held-also v (g rest)
 -- the kinds of item
 literal-item : (c : ℕ) → isLiteral c ≡ true → itemOf c ≡ byte c
 literal-item c h =
-    let b = both (not (eqb c 35)) (not (eqb c 64)) h in
-    rw (not-true (eqb c 35) (b .0), not-true (eqb c 64) (b .1))
+    let b = both (not (eqb c 35)) (not (eqb c 36)) h in
+    rw (not-true (eqb c 35) (b .0), not-true (eqb c 36) (b .1))
 
 value-item : (c : ℕ) (form : List Item) (s : List ℕ) → isLiteral c ≡ false
     → (lineValues (itemOf c ∷ form) s ≡ andRest (lineValues form) (valueHead c s)) × (numbers (itemOf c ∷ form) ≡ suc (numbers form))
-value-item c form s h = go (eqb c 35) (eqb c 64) h
+value-item c form s h = go (eqb c 35) (eqb c 36) h
   where
     go : (t u : Bool) → not t && not u ≡ false
         → (lineValues ((if t then number else (if u then four else byte c)) ∷ form) s ≡ andRest (lineValues form) (if t then numberHead s else fourHead s))

@@ -5,7 +5,7 @@ use mathlib.Core.Bool.{Bool, true, false, _&&_}
 use mathlib.Core.List.{List, [], _∷_}
 use lib.ListN.{length, getD, drop, drop-of-length-le, length-drop}
 use lib.Seq.{drop-cons}
-use lib.Dec.{T, leb, eqb}
+use lib.Dec.{T, leb}
 use lib.IntN.{ℤ, pos}
 use native.Mathlib.Decide.{decLe}
 use native.Mathlib.Nat.{lt-of-not-le}
@@ -14,7 +14,7 @@ use native.Mathlib.Omega.{arith}
 use borrow.Author.Tests.{leb-true, eqb-true}
 use Rattle.weight.specs.Choice.{if_then_else_, within}
 use Rattle.weight.proofs.Tests.{both}
-use Rattle.text.specs.Number.{Head, none, some, isDigit, signed, digits, positive, numberHead, fourDigits, fourNumber, fourHead}
+use Rattle.text.specs.Number.{none, some, isDigit, signed, digits, positive, numberHead, fourDigits, fourNumber, fourHead}
 use Rattle.text.specs.Read.{limit, hold}
 use Rattle.text.specs.Views.{byteIs, digitFrom, heldHead, found, fourOf}
 use Rattle.text.specs.declared.number.Found.the-variants.{Nothing, Value}

@@ -1,16 +1,18 @@
 -- What the values that were read say of a line, and which kinds its first byte leaves. Assumes nothing.
-use Prim.Native.Nat.{ℕ}
+use Prim.Native.Nat.{ℕ, suc}
 use mathlib.Core.Path.{_≡_, refl, sym, ap, _∙_}
-use mathlib.Core.Bool.{Bool, true, false}
-use mathlib.Core.List.{List, [], _∷_}
-use lib.ListN.{length, getD, take}
+use mathlib.Core.Bool.{Bool, true, false, _&&_}
+use mathlib.Core.List.{List, [], _∷_, map}
+use lib.ListN.{length, getD, take, drop}
 use lib.IntN.{ℤ}
 use native.Mathlib.Omega.{arith}
+use lib.Dec.{eqb}
 use borrow.Author.Tests.{ne-eqb}
 use Rattle.weight.specs.Choice.{if_then_else_}
-use Rattle.text.specs.Form.{Values, other, values, lineValues, numbers}
-use Rattle.text.specs.Read.{held, Kind, sample, setup, store, report, commands, kinds, says, firstOf}
-use Rattle.text.specs.Views.{itemsOf, fieldsValues, reads}
+use Rattle.weight.proofs.Tests.{by-cases}
+use Rattle.text.specs.Form.{Item, byte, Values, other, values, lineValues}
+use Rattle.text.specs.Read.{hold, held, Kind, sample, setup, store, report, commands, kinds, says, firstOf}
+use Rattle.text.specs.Views.{reads}
 use Rattle.text.specs.declared.form.Fields.{Fields}
 use Rattle.text.specs.declared.Read.{Read}
 use Rattle.text.specs.declared.Read.the-variants as read
@@ -25,33 +27,57 @@ module _ (k : Kind) (n : ℕ) (more : List Kind) (s : List ℕ) (r : Fields)
   pub has : r .ok ≡ true → firstOf (k ∷ more) s ≡ k .means (take n (r .values))
   has o = sym (ap (λ (w : Values). says w (k .means) (firstOf more s)) e) ∙ rw o
 
--- whether a form was read
-pub ok-reads : (form s : List ℕ) (r : Fields) → fieldsValues form r ≡ held (lineValues (itemsOf form) s) → r .ok ≡ reads (lineValues (itemsOf form) s)
-ok-reads form s r e = ok (r .ok) (take (numbers (itemsOf form)) (r .values)) ∙ ap reads e ∙ held-reads (lineValues (itemsOf form) s)
+-- a line that has a form of bytes is as long as it
+word-length : (word s : List ℕ) → reads (lineValues (map byte word) s) ≡ true → length s ≡ length word
+word-length [] [] h = refl
+word-length [] (b ∷ s) h = never h
+word-length (c ∷ word) [] h = never h
+word-length (c ∷ word) (b ∷ s) h = go (eqb b c) h (λ e. word-length word s e)
   where
-    ok : (t : Bool) (vs : List ℤ) → t ≡ reads (if t then values vs else other)
-    ok true vs = refl
-    ok false vs = refl
+    go : (t : Bool) → reads (if t then lineValues (map byte word) s else other) ≡ true → (reads (lineValues (map byte word) s) ≡ true → length s ≡ length word)
+        → suc (length s) ≡ suc (length word)
+    go true h more = ap suc (more h)
+    go false h more = never h
 
-    held-reads : (w : Values) → reads (held w) ≡ reads w
-    held-reads other = refl
-    held-reads (values vs) = refl
+pub word-other : (word s : List ℕ) → (length s ≡ length word → ⊥) → false ≡ reads (lineValues (map byte word) s)
+word-other word s f = by-cases (reads (lineValues (map byte word) s)) (λ e. absurd (f (word-length word s e))) (λ e. sym e)
 
--- a command, which has no value
-module _ (w : Values) (e next : Read) where
-  pub is-command : reads w ≡ true → says (held w) (λ v. e) next ≡ e
-  is-command h = go w h
-    where
-      go : (w : Values) → reads w ≡ true → says (held w) (λ v. e) next ≡ e
-      go other h = never h
-      go (values vs) h = refl
+pub word-reads : (s : List ℕ) (a b c d : ℕ) → length s ≡ 4
+    → eqb (getD s 0 0) a && (eqb (getD s 1 0) b && (eqb (getD s 2 0) c && eqb (getD s 3 0) d)) ≡ reads (lineValues (byte a ∷ byte b ∷ byte c ∷ byte d ∷ []) s)
+word-reads [] a b c d h = absurd (omega arith)
+word-reads (w ∷ []) a b c d h = absurd (omega arith)
+word-reads (w ∷ x ∷ []) a b c d h = absurd (omega arith)
+word-reads (w ∷ x ∷ y ∷ []) a b c d h = absurd (omega arith)
+word-reads (w ∷ x ∷ y ∷ z ∷ []) a b c d h = go (eqb w a) (eqb x b) (eqb y c) (eqb z d)
+  where
+    go : (p q r t : Bool) → p && (q && (r && t)) ≡ reads (if p then (if q then (if r then (if t then values [] else other) else other) else other) else other)
+    go true true true true = refl
+    go true true true false = refl
+    go true true false t = refl
+    go true false r t = refl
+    go false q r t = refl
+word-reads (w ∷ x ∷ y ∷ z ∷ e ∷ s) a b c d h = absurd (omega arith)
 
-  pub no-command : reads w ≡ false → says (held w) (λ v. e) next ≡ next
-  no-command h = go w h
-    where
-      go : (w : Values) → reads w ≡ false → says (held w) (λ v. e) next ≡ next
-      go other h = refl
-      go (values vs) h = never (sym h)
+-- the first of the kinds, where it is a command, which means the same for all values
+abbrev pub firstForm : List Kind → List Item
+firstForm [] = []
+firstForm (k ∷ more) = k .form
+
+pub is-first : (k : Kind) (more : List Kind) (s : List ℕ) (e : Read) → ((vs : List ℤ) → k .means vs ≡ e)
+    → reads (lineValues (k .form) s) ≡ true → firstOf (k ∷ more) s ≡ e
+is-first k more s e same h = go (lineValues (k .form) s) h
+  where
+    go : (w : Values) → reads w ≡ true → says (held w) (k .means) (firstOf more s) ≡ e
+    go other h = never h
+    go (values vs) h = same (map hold vs)
+
+pub not-first : (ks : List Kind) (s : List ℕ) → reads (lineValues (firstForm ks) s) ≡ false → firstOf ks s ≡ firstOf (drop 1 ks) s
+not-first [] s h = refl
+not-first (k ∷ more) s h = go (lineValues (k .form) s) h
+  where
+    go : (w : Values) → reads w ≡ false → says (held w) (k .means) (firstOf more s) ≡ firstOf more s
+    go other h = refl
+    go (values vs) h = never (sym h)
 
 pub empty : (s : List ℕ) → length s ≡ 0 → read.Other ≡ firstOf kinds s
 empty [] h = refl

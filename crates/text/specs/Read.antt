@@ -17,6 +17,7 @@ use Rattle.text.specs.Form.{Item, four, plain, fieldsForm, Values, other
 abbrev pub limit : ℕ
 limit = 1000000000
 
+-- a number, and the numbers of a line, held within the limit
 abbrev pub hold : ℤ → ℤ
 hold (pos n) = pos (min n limit)
 hold (negsuc n) = negℤ (pos (min (suc n) limit))

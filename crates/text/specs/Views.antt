@@ -4,7 +4,7 @@ use mathlib.Core.Bool.{Bool, true, false, not, _&&_}
 use mathlib.Core.List.{List, [], _∷_, map}
 use lib.ListN.{drop, take}
 use lib.Dec.{eqb}
-use lib.IntN.{ℤ, pos}
+use lib.IntN.{pos}
 use Rattle.weight.specs.Choice.{if_then_else_, within}
 use Rattle.text.specs.Number.{Head, none, some, numberHead, fourDigits, fourNumber, fourHead}
 use Rattle.text.specs.Form.{Item, byte, number, four, Values, other, values, numbers}
@@ -33,12 +33,12 @@ found line (Value v next) = some v (drop next line)
 abbrev pub fourOf : ℕ → ℕ → ℕ → ℕ → ℕ → Found
 fourOf a b c d next = if fourDigits a b c d then Value (pos (fourNumber a b c d)) next else Nothing
 
--- the source writes a form as a text: # is a number, @ four digits, and any other byte itself
+-- the source writes a form as a text: # is a number, $ four digits, and any other byte itself
 abbrev pub isLiteral : ℕ → Bool
-isLiteral b = not (eqb b 35) && not (eqb b 64)
+isLiteral b = not (eqb b 35) && not (eqb b 36)
 
 abbrev pub itemOf : ℕ → Item
-itemOf b = if eqb b 35 then number else (if eqb b 64 then four else byte b)
+itemOf b = if eqb b 35 then number else (if eqb b 36 then four else byte b)
 
 abbrev pub itemsOf : List ℕ → List Item
 itemsOf form = map itemOf form

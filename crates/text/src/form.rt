@@ -1,10 +1,10 @@
-// The values of a line by its form: in a form # is a number, @ four digits, and any other byte itself.
+// The values of a line by its form: in a form # is a number, $ four digits, and any other byte itself.
 ghost use mathlib.Core.Path.{_≡_};
 ghost use Prim.Native.Nat.{_≤_};
 ghost use lib.ListN.{drop};
 ghost use Rattle.text.specs.Form.{lineValues, numbers};
 ghost use Rattle.text.specs.Read.{held};
-ghost use Rattle.text.specs.Views.{isLiteral, itemOf, itemsOf, valueHead, found, heldHead, fieldsValues};
+ghost use Rattle.text.specs.Views.{isLiteral, itemsOf, valueHead, found, heldHead, fieldsValues};
 use crate::number::Found;
 use crate::number::byte_at;
 use crate::number::read_four;
@@ -12,14 +12,14 @@ use crate::number::read_number;
 
 // The values of a line, where `ok`; a form has at most eleven.
 pub(crate) struct Fields {
-    pub(crate) ok: bool,
     pub(crate) values: [i64; 11],
+    pub(crate) ok: bool,
 }
 
 fn is_literal(item: u8) -> bool
     ensures { λ r. ⌜ r ≡ isLiteral item ⌝ }
 {
-    (item != b'#') & (item != b'@')
+    (item != b'#') & (item != b'$')
 }
 
 // What an item that has a value finds at a place.
@@ -45,16 +45,16 @@ pub(crate) fn read_form(line: &[u8], form: &[u8]) -> Fields
         if is_literal(item) {
             if !byte_at(line, at, item) {
                 return Fields {
-                    ok: false,
                     values: values,
+                    ok: false,
                 };
             }
             at += 1;
         } else {
             let Found::Value { value, next } = read_value(line, at, item) else {
                 return Fields {
-                    ok: false,
                     values: values,
+                    ok: false,
                 };
             };
             values[count] = value;
@@ -64,7 +64,7 @@ pub(crate) fn read_form(line: &[u8], form: &[u8]) -> Fields
         k += 1;
     }
     Fields {
-        ok: line.len() <= at,
         values: values,
+        ok: line.len() <= at,
     }
 }

@@ -1,10 +1,9 @@
 // What a line says: its form by its first byte, then the event or the report that its values give.
 ghost use mathlib.Core.Path.{_≡_};
 ghost use mathlib.Core.List.{[], _∷_};
-ghost use Prim.Native.Nat.{_≤_};
-ghost use Rattle.text.specs.Form.{lineValues, numbers};
+ghost use Rattle.text.specs.Form.{byte, lineValues};
 ghost use Rattle.text.specs.Read.{unsigned, sample, setup, store, report, codedCommands, commands, firstOf, readLine};
-ghost use Rattle.text.specs.Views.{itemsOf, reads};
+ghost use Rattle.text.specs.Views.{reads};
 use crate::Read;
 use crate::form::read_form;
 use crate::number::LIMIT;
@@ -105,12 +104,12 @@ fn read_report(line: &[u8]) -> Read
 fn read_coded(line: &[u8]) -> Read
     ensures { λ r. ⌜ r ≡ firstOf codedCommands (now (line .entry)) ⌝ }
 {
-    let recall = read_form(line, b"CCOD@");
+    let recall = read_form(line, b"CCOD$");
     if recall.ok {
         let v = recall.values;
         return Read::Event(Event::Recall(unsigned_of(v[0])));
     }
-    let clear = read_form(line, b"CDTL@");
+    let clear = read_form(line, b"CDTL$");
     if clear.ok {
         let v = clear.values;
         return Read::Event(Event::ClearCode(unsigned_of(v[0])));
@@ -118,36 +117,38 @@ fn read_coded(line: &[u8]) -> Read
     Read::Other
 }
 
-fn has_form(line: &[u8], form: &[u8]) -> bool
-    requires { ⌜ numbers (itemsOf (now form)) ≤ 11 ⌝ }
-    ensures { λ r. ⌜ r ≡ reads (lineValues (itemsOf (now (form .entry))) (now (line .entry))) ⌝ }
+// The line is the word of these four bytes.
+fn is_word(line: &[u8], a: u8, b: u8, c: u8, d: u8) -> bool
+    ensures { λ r. ⌜ r ≡ reads (lineValues (byte a ∷ byte b ∷ byte c ∷ byte d ∷ []) (now (line .entry))) ⌝ }
 {
-    let r = read_form(line, form);
-    r.ok
+    if line.len() != 4 {
+        return false;
+    }
+    (line[0] == a) & ((line[1] == b) & ((line[2] == c) & (line[3] == d)))
 }
 
 fn read_command(line: &[u8]) -> Read
     ensures { λ r. ⌜ r ≡ firstOf commands (now (line .entry)) ⌝ }
 {
-    if has_form(line, b"COPR") {
+    if is_word(line, b'C', b'O', b'P', b'R') {
         return Read::Event(Event::Run);
     }
-    if has_form(line, b"CSTD") {
+    if is_word(line, b'C', b'S', b'T', b'D') {
         return Read::Event(Event::Stop);
     }
-    if has_form(line, b"CSTP") {
+    if is_word(line, b'C', b'S', b'T', b'P') {
         return Read::Event(Event::Emergency);
     }
-    if has_form(line, b"CCAC") {
+    if is_word(line, b'C', b'C', b'A', b'C') {
         return Read::Event(Event::Cancel);
     }
-    if has_form(line, b"CETL") {
+    if is_word(line, b'C', b'E', b'T', b'L') {
         return Read::Event(Event::ClearAll);
     }
-    if has_form(line, b"CRER") {
+    if is_word(line, b'C', b'R', b'E', b'R') {
         return Read::Event(Event::ErrorReset);
     }
-    if has_form(line, b"CNOP") {
+    if is_word(line, b'C', b'N', b'O', b'P') {
         return Read::Event(Event::NoOperation);
     }
     read_coded(line)

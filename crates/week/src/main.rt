@@ -2,10 +2,12 @@
 ghost use Prim.Native.Nat.{_≤_};
 ghost use lib.ListN.{length};
 use event::Event;
-use libc::{STDIN_FILENO, STDOUT_FILENO};
+use libc::STDIN_FILENO;
+use libc::STDOUT_FILENO;
 use line::Reply;
 use replay::Plant;
-use sheet::{Report, Sheet};
+use sheet::Report;
+use sheet::Sheet;
 use text::Read;
 
 fn write_first(out: &[u8], n: usize) {

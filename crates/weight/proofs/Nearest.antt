@@ -5,7 +5,7 @@ use native.Mathlib.Nat.{div-add-mod', mod-lt, le-mul-of-pos-right, lt-of-not-le,
 use native.Mathlib.Omega.{arith}
 use lib.IntN.{ℤ, natAbs}
 use borrow.Author.Tests.{le-leb, lt-leb}
-use Rattle.weight.specs.Mean.{nearest, rounded, withSign}
+use Rattle.weight.specs.Mean.{nearest, rounded}
 use Rattle.weight.proofs.Signed.{abs-withSign}
 
 -- one more than the quotient, where half or more is left

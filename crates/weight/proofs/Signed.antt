@@ -5,7 +5,7 @@ use mathlib.Core.Path.{_≡_, refl, sym, ap, subst, _∙_}
 use Prim.Native.Nat.{ℕ, zero, suc, _+_, _-_, _≤_, _<_, _^_, zero-le}
 use native.Mathlib.Omega.{arith}
 use native.Mathlib.Nat.{lt-of-le-of-lt}
-use lib.Dec.{T, ltb, leb}
+use lib.Dec.{T, ltb}
 use lib.IntN.{ℤ, pos, negsuc, negℤ, natAbs, _+ℤ_, _-ℤ_}
 use lib.Signed.{ltZ, leZ, nonNeg, mag}
 use borrow.Author.Tests.{le-ltb, le-leb, ltb-true}

@@ -1,6 +1,6 @@
 -- What a test that was passed tells. Assumes nothing.
 use mathlib.Core.Path.{_≡_, refl, sym, subst}
-use mathlib.Core.Bool.{Bool, true, false, _&&_, not}
+use mathlib.Core.Bool.{Bool, true, false, _&&_}
 use lib.Dec.{T}
 use Rattle.weight.specs.Choice.{if_then_else_}
 

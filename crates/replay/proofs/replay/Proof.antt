@@ -1,16 +1,16 @@
 -- `replay` is the fold: after i turns the plant and its tallies are those of the first i events. The claim holds of it. Assumes nothing.
 use borrow.Author.Needs.{needs}
-use mathlib.Core.Path.{_≡_, refl, sym, ap, _∙_}
+use mathlib.Core.Path.{_≡_, refl, ap, _∙_}
 use Prim.Native.Nat.{ℕ, _-_, _≤_}
 use native.Mathlib.Omega.{arith}
 use lib.IntN.{pos}
 use lib.ListN.{length, length-replicate}
 use lib.Seq.{take-all}
-use Rattle.event.specs.declared.Event.{Event}
-use Rattle.event.specs.declared.Event.the-variants.{Sample}
-use Rattle.tally.specs.Memory.{talliesLength, zeros}
-use Rattle.book.specs.Run.{runFrom, run}
 use Rattle.book.proofs.Every.{claim}
+use Rattle.book.specs.Run.{runFrom, run}
+use Rattle.event.specs.declared.Event.the-variants.{Sample}
+use Rattle.event.specs.declared.Event.{Event}
+use Rattle.tally.specs.Memory.{zeros}
 use Rattle.replay.proofs.Fold.{After, turned-after}
 use Rattle.replay.proofs.replay.Statement.{statement}
 use Rattle.replay.proofs.replay.Tie as tie

@@ -1,27 +1,20 @@
+-- `stored` equals its definition `storedFor`. Assumes nothing.
 use borrow.Author.Needs.{needs}
 use Rattle.replay.proofs.stored.Statement.{statement}
 use Rattle.replay.proofs.stored.Tie as tie
-use Rattle.replay.proofs.stored.Reads as reads
-use Rattle.replay.proofs.stored.Lts as lts
-use Rattle.replay.proofs.put.Reads as put-reads
 
--- src/lib.rt:38:51
 enum-told : tie.Need-enum-told
 enum-told c = search needs
 
--- src/lib.rt:39:27
 enum-told-2 : tie.Need-enum-told-2
 enum-told-2 c = search needs
 
--- src/lib.rt:39:27
 put-requires : tie.Need-put-requires
 put-requires c κs = search needs
 
--- src/lib.rt:34:1
 returns : tie.Need-returns
 returns c = search needs
 
--- src/lib.rt:34:1
 returns-2 : tie.Need-returns-2
 returns-2 c = rw (c .before .enum-told2 .given .1) (c .put .ensures)
 

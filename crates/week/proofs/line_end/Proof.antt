@@ -4,8 +4,6 @@ use Prim.Native.Nat.{_-_, _≤_}
 use lib.ListN.{length}
 use Rattle.week.proofs.line_end.Statement.{statement}
 use Rattle.week.proofs.line_end.Tie as tie
-use Rattle.week.proofs.line_end.Reads as reads
-use Rattle.week.proofs.line_end.Lts as lts
 
 abbrev Inv-loop : tie.InvT-loop
 Inv-loop input start n i₀ i = (start ≤ i) × (i ≤ n) × (n ≤ length input)
@@ -13,31 +11,24 @@ Inv-loop input start n i₀ i = (start ≤ i) × (i ≤ n) × (n ≤ length inpu
 abbrev μ-loop : tie.MeasureT-loop
 μ-loop input start n i₀ i = n - i
 
--- src/main.rt:147:5
 loop-holds : tie.Need-loop-holds Inv-loop μ-loop
 loop-holds c = search needs
 
--- src/main.rt:148:12
 shared-slice-read-if1 : tie.Need-shared-slice-read-if1 Inv-loop μ-loop
 shared-slice-read-if1 c = search needs
 
--- src/main.rt:149:13
 returns : tie.Need-returns Inv-loop μ-loop
 returns c = search needs
 
--- src/main.rt:151:9
 add-i : tie.Need-add-i Inv-loop μ-loop
 add-i c = search needs
 
--- src/main.rt:147:5
 loop-less : tie.Need-loop-less Inv-loop μ-loop
 loop-less c = search needs
 
--- src/main.rt:147:5
 loop-again : tie.Need-loop-again Inv-loop μ-loop
 loop-again c = search needs
 
--- src/main.rt:142:1
 returns-2 : tie.Need-returns-2 Inv-loop μ-loop
 returns-2 c = search needs
 

@@ -1,11 +1,9 @@
-use Rattle.line.specs.Fit.{errorKnown}
+-- `error_known` equals its definition `errorKnown`. Assumes nothing.
 use mathlib.Core.Path.{refl}
+use Rattle.line.specs.Fit.{errorKnown}
 use Rattle.line.proofs.fit.error_known.Statement.{statement}
 use Rattle.line.proofs.fit.error_known.Tie as tie
-use Rattle.line.proofs.fit.error_known.Reads as reads
-use Rattle.line.proofs.fit.error_known.Lts as lts
 
--- src/fit.rt:9:1
 returns : tie.Need-returns
 unfolding errorKnown
 returns c = refl

@@ -1,31 +1,24 @@
-use Rattle.line.proofs.Tallies.{lent-fit, lent-unfit}
-use mathlib.Core.Path.{sym, _∙_}
+-- `tally_fit` equals its definition `tallyAtFit`. Assumes nothing.
 use borrow.Author.Needs.{needs}
+use mathlib.Core.Path.{sym, _∙_}
+use Rattle.line.proofs.Tallies.{lent-fit, lent-unfit}
 use Rattle.line.proofs.refusal.tally_fit.Statement.{statement}
 use Rattle.line.proofs.refusal.tally_fit.Tie as tie
-use Rattle.line.proofs.refusal.tally_fit.Reads as reads
-use Rattle.line.proofs.refusal.tally_fit.Lts as lts
-use Rattle.tally.proofs.read.Reads as read-reads
 
--- src/refusal.rt:75:9
 read-requires : tie.Need-read-requires
 read-requires c κs = search needs
 
--- src/refusal.rt:77:25
 enum-told : tie.Need-enum-told
 enum-told c = search needs
 
--- src/refusal.rt:78:24
 enum-told-2 : tie.Need-enum-told-2
 enum-told-2 c = search needs
 
--- src/refusal.rt:71:1
 returns : tie.Need-returns
 returns c =
     let s = c .before .before .before in
     sym (lent-fit (s .args .tallies .now) (s .args .code) (s .pre .0) (s .pre .1) _ (sym (c .before .before .read .ensures) ∙ c .enum-told .given .1) .0)
 
--- src/refusal.rt:71:1
 returns-2 : tie.Need-returns-2
 returns-2 c =
     let s = c .before .before .before in

@@ -1,16 +1,13 @@
-use Rattle.line.specs.Sample.{edgeMade}
+-- `edge_made` equals its definition `edgeMade`. Assumes nothing.
 use borrow.Author.Tests.{eq-eqb, ne-eqb}
+use Rattle.line.specs.Sample.{edgeMade}
 use Rattle.line.proofs.sample.edge_made.Statement.{statement}
 use Rattle.line.proofs.sample.edge_made.Tie as tie
-use Rattle.line.proofs.sample.edge_made.Reads as reads
-use Rattle.line.proofs.sample.edge_made.Lts as lts
 
--- src/sample.rt:21:9
 returns : tie.Need-returns
 unfolding edgeMade
 returns c = simp (eq-eqb _ _ (c .if1 .taken))
 
--- src/sample.rt:17:1
 returns-2 : tie.Need-returns-2
 unfolding edgeMade
 returns-2 c = simp (ne-eqb _ _ (c .if1 .left))

@@ -1,26 +1,21 @@
-use Rattle.line.specs.Verdict.{errorFor}
+-- `error_for` equals its definition `errorFor`. Assumes nothing.
 use borrow.Author.Tests.{eq-eqb, ne-eqb}
+use Rattle.line.specs.Verdict.{errorFor}
 use Rattle.line.proofs.verdict.error_for.Statement.{statement}
 use Rattle.line.proofs.verdict.error_for.Tie as tie
-use Rattle.line.proofs.verdict.error_for.Reads as reads
-use Rattle.line.proofs.verdict.error_for.Lts as lts
 
--- src/verdict.rt:15:9
 returns : tie.Need-returns
 unfolding errorFor
 returns c = simp (eq-eqb _ _ (c .if1 .taken))
 
--- src/verdict.rt:18:9
 returns-2 : tie.Need-returns-2
 unfolding errorFor
 returns-2 c = simp (eq-eqb _ _ (c .if2 .taken), ne-eqb _ _ (c .before .if1 .left))
 
--- src/verdict.rt:21:9
 returns-3 : tie.Need-returns-3
 unfolding errorFor
 returns-3 c = simp (eq-eqb _ _ (c .if3 .taken), ne-eqb _ _ (c .before .if2 .left), ne-eqb _ _ (c .before .before .if1 .left))
 
--- src/verdict.rt:11:1
 returns-4 : tie.Need-returns-4
 unfolding errorFor
 returns-4 c = simp (ne-eqb _ _ (c .if3 .left), ne-eqb _ _ (c .before .if2 .left), ne-eqb _ _ (c .before .before .if1 .left))

@@ -56,15 +56,11 @@ size-requires-2 c κs = search needs
 
 put-decimal-requires-2 : tie.Need-put-decimal-requires-2
 put-decimal-requires-2 c κs =
-    let o = c .before .before .before .before in
     let short = digits-fit-2 c in
-    let same = length-set (now (o .args .out)) (o .args .at) 45 in
-    omega arith
+    simp length-set (omega arith)
 
 same-length-2 : tie.Need-same-length-2
-same-length-2 c =
-    let o = c .before .before .before .before .before .before .before in
-    c .before .before .put-decimal2 .kept .0 ∙ length-set (now (o .args .out)) (o .args .at) 45
+same-length-2 c = c .before .before .put-decimal2 .kept .0 ∙ simp length-set
 
 returns-2 : tie.Need-returns-2
 returns-2 c =

@@ -1,18 +1,14 @@
 -- `read_form` keeps `State` from item to item. Assumes nothing.
 use borrow.Author.Needs.{needs}
 use Prim.Native.Nat.{_-_, _<_}
-use mathlib.Core.Bool.{true, false}
 use mathlib.Core.Logic.{⊎-elim}
-use mathlib.Core.Path.{_≡_, refl, sym, _∙_}
+use mathlib.Core.Path.{refl, sym, _∙_}
 use native.Mathlib.Omega.{arith}
-use lib.ListN.{length, getD, drop}
+use lib.ListN.{length, getD}
 use denote.Ref.{now}
 use borrow.Author.Tests.{not-true, not-false}
 use Rattle.weight.proofs.Signed.{back}
-use Rattle.text.specs.Views.{isLiteral, heldHead, found, valueHead}
-use Rattle.text.specs.declared.number.Found.{Found}
-use Rattle.text.specs.declared.number.Found.the-variants.{Nothing, Value}
-use Rattle.text.proofs.Heads.{Byte, byte-here}
+use Rattle.text.proofs.Heads.{byte-here}
 use Rattle.text.proofs.Filling.{State, start, byte-found, byte-missing, value-missing, value-room, value-found, ended}
 use Rattle.text.proofs.form.read_form.Statement.{statement}
 use Rattle.text.proofs.form.read_form.Tie as tie

@@ -1,6 +1,6 @@
 -- `read_number` goes by the first byte: 0, a minus sign, or another. Assumes nothing.
 use borrow.Author.Needs.{needs}
-use mathlib.Core.Path.{_≡_, sym, _∙_}
+use mathlib.Core.Path.{sym, _∙_}
 use lib.ListN.{drop}
 use denote.Ref.{now}
 use Rattle.text.proofs.Heads.{Byte, byte-here, number-zero, number-minus, number-plain}

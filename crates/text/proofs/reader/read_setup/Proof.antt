@@ -1,7 +1,7 @@
 -- `read_setup` gives the values of its form. Assumes nothing.
 use borrow.Author.Needs.{needs}
 use mathlib.Core.List.{[]}
-use mathlib.Core.Path.{_≡_, sym, _∙_}
+use mathlib.Core.Path.{sym, _∙_}
 use lib.Dec.{lit<}
 use lib.IntN.{pos}
 use lib.Seq.{getD-take}

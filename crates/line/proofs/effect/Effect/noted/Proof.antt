@@ -1,63 +1,49 @@
-use Rattle.line.proofs.Tallies.{noted-room, noted-full, written-is}
-use Rattle.line.specs.declared.effect.Effect.{Effect}
-use Rattle.line.specs.Tallying.{noted}
-use Rattle.tally.proofs.Added.{added-fit}
-use Rattle.tally.specs.declared.tally.Noted.the-variants.{Tallied, Untallied}
-use Rattle.tally.specs.declared.tally.Tally.{Tally}
-use Rattle.tally.specs.Memory.{withTally}
-use Rattle.tally.specs.Tally.{tallyFit, hasRoom, added, notedOf}
-use Rattle.weight.proofs.Signed.{back}
-use Rattle.weight.specs.Weight.{isWeight}
-use Rattle.weight.specs.Choice.{within}
-use mir.Val.{toZ, ofZ}
-use mir.Syntax.{w64}
-use lib.Signed.{mag}
-use Prim.Native.Nat.{_<_, _^_}
+-- `noted` tallies a verdict where there is room, and keeps the tally as before it. Assumes nothing.
+use borrow.Author.Needs.{needs}
 use mathlib.Core.Bool.{true, false}
 use mathlib.Core.Path.{_≡_, refl, sym, ap, _∙_}
-use borrow.Author.Needs.{needs}
+use Prim.Native.Nat.{_<_, _^_}
+use lib.Signed.{mag}
+use mir.Val.{toZ, ofZ}
+use mir.Syntax.{w64}
+use Rattle.tally.proofs.Added.{added-fit}
+use Rattle.tally.specs.Memory.{withTally}
+use Rattle.tally.specs.Tally.{tallyFit, hasRoom, added, notedOf}
+use Rattle.tally.specs.declared.tally.Noted.the-variants.{Tallied, Untallied}
+use Rattle.tally.specs.declared.tally.Tally.{Tally}
+use Rattle.weight.proofs.Signed.{back}
+use Rattle.weight.specs.Choice.{within}
+use Rattle.weight.specs.Weight.{isWeight}
+use Rattle.line.proofs.Tallies.{noted-room, noted-full, written-is}
+use Rattle.line.specs.Tallying.{noted}
+use Rattle.line.specs.declared.effect.Effect.{Effect}
 use Rattle.line.proofs.effect.Effect.noted.Statement.{statement}
 use Rattle.line.proofs.effect.Effect.noted.Tie as tie
-use Rattle.line.proofs.effect.Effect.noted.Reads as reads
-use Rattle.line.proofs.effect.Effect.noted.Lts as lts
-use Rattle.line.proofs.effect.Effect.replied.Reads as replied-reads
-use Rattle.line.proofs.line.Line.with_undo.Reads as with-undo-reads
-use Rattle.tally.proofs.write.Reads as write-reads
-use Rattle.tally.proofs.tally.Tally.noted.Reads as noted-reads
 
--- src/tallying.rt:38:13
 noted-requires : tie.Need-noted-requires
 noted-requires c κs = search needs
 
--- src/tallying.rt:40:28
 enum-known-noted : tie.Need-enum-known-noted
 enum-known-noted c = search needs
 
--- src/tallying.rt:41:17
 write-requires : tie.Need-write-requires
 write-requires c κs = search needs
 
--- src/tallying.rt:42:21
 with-undo-requires : tie.Need-with-undo-requires
 with-undo-requires c κs = search needs
 
--- src/tallying.rt:43:21
 replied-requires : tie.Need-replied-requires
 replied-requires c κs = search needs
 
--- src/tallying.rt:50:43
 enum-told : tie.Need-enum-told
 enum-told c = search needs
 
--- src/tallying.rt:50:21
 with-undo-requires-2 : tie.Need-with-undo-requires-2
 with-undo-requires-2 c κs = search needs
 
--- src/tallying.rt:51:21
 replied-requires-2 : tie.Need-replied-requires-2
 replied-requires-2 c κs = search needs
 
--- src/tallying.rt:32:5
 same-length : tie.Need-same-length
 same-length c = search needs
 
@@ -70,7 +56,6 @@ full-of : (x : Effect) (t : Tally) → mag (x .net) < 2 ^ 63 → tallyFit t ≡ 
     → notedOf t (x .outcome) (toZ w64 (ofZ w64 (x .net))) ≡ Untallied → hasRoom t ≡ false
 full-of x t b f v w e = noted-full t (x .outcome) (x .net) f v w (rw (back (x .net) b) at e)
 
--- src/tallying.rt:32:5
 returns : tie.Need-returns
 unfolding noted
 returns c =
@@ -83,7 +68,6 @@ returns c =
       rw (n .0) (c .before .before .before .write .ensures ∙ written-is (a .tallies .now) (a .self .line .code) (s .pre .0) (s .pre .1) (w .0 .0) f ∙ ap (withTally (a .tallies .now) (a .self .line .code)) (n .1)),
     )
 
--- src/tallying.rt:32:5
 returns-2 : tie.Need-returns-2
 unfolding noted
 returns-2 c =

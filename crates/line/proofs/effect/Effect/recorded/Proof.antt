@@ -1,41 +1,31 @@
-use Rattle.line.proofs.Tallies.{lent-fit, lent-unfit}
-use Rattle.line.specs.Tallying.{recorded}
+-- `recorded` notes the verdict of the effect, if there is one, under the active code. Assumes nothing.
+use borrow.Author.Needs.{needs}
+use mathlib.Core.Path.{_≡_, refl, sym, _∙_}
+use Prim.Native.Nat.{ℕ}
+use native.Mathlib.Omega.{arith}
 use Rattle.tally.specs.Memory.{part, unsigned, tallyAt, tallyAtFit}
 use Rattle.tally.specs.Tally.{tallyFit}
 use Rattle.weight.proofs.Tests.{both}
-use native.Mathlib.Omega.{arith}
-use Prim.Native.Nat.{ℕ}
-use mathlib.Core.Path.{_≡_, refl, sym, _∙_}
-use borrow.Author.Needs.{needs}
+use Rattle.line.proofs.Tallies.{lent-fit, lent-unfit}
+use Rattle.line.specs.Tallying.{recorded}
 use Rattle.line.proofs.effect.Effect.recorded.Statement.{statement}
 use Rattle.line.proofs.effect.Effect.recorded.Tie as tie
-use Rattle.line.proofs.effect.Effect.recorded.Reads as reads
-use Rattle.line.proofs.effect.Effect.recorded.Lts as lts
-use Rattle.line.proofs.effect.Effect.noted.Reads as noted-reads
-use Rattle.line.proofs.effect.Effect.untallied.Reads as untallied-reads
-use Rattle.tally.proofs.read.Reads as read-reads
 
--- src/tallying.rt:68:17
 read-requires : tie.Need-read-requires
 read-requires c κs = search needs
 
--- src/tallying.rt:69:27
 enum-known-lent : tie.Need-enum-known-lent
 enum-known-lent c = search needs
 
--- src/tallying.rt:70:17
 enum-told : tie.Need-enum-told
 enum-told c = search needs
 
--- src/tallying.rt:70:17
 untallied-requires : tie.Need-untallied-requires
 untallied-requires c κs = search needs
 
--- src/tallying.rt:70:17
 same-length : tie.Need-same-length
 same-length c = search needs
 
--- src/tallying.rt:70:17
 returns : tie.Need-returns
 returns c =
     let s = c .before .before .before .before .before .before .before .before .before in
@@ -43,7 +33,6 @@ returns c =
     let z : _≡_ {A = ℕ} 0 1 = cc (sym (s .pre .2) ∙ u) in
     absurd (omega arith)
 
--- src/tallying.rt:72:13
 noted-requires : tie.Need-noted-requires
 unfolding tallyAtFit
 noted-requires c κs =
@@ -53,11 +42,9 @@ noted-requires c κs =
     let l = lent-fit (a .tallies .now) (a .self .line .code) (s .pre .0) (s .pre .1) (w .0 .0) (sym (c .before .before .before .before .read .ensures) ∙ w .1) in
     (s .pre .0, s .pre .1, rw (l .1) (both (unsigned (part (a .tallies .now) (a .self .line .code))) (tallyFit (tallyAt (a .tallies .now) (a .self .line .code))) (l .0) .1), c .before .before .before .before .before .before .before .if1 .taken, s .pre .3)
 
--- src/tallying.rt:72:13
 same-length-2 : tie.Need-same-length-2
 same-length-2 c = search needs
 
--- src/tallying.rt:72:13
 returns-2 : tie.Need-returns-2
 unfolding recorded
 returns-2 c =
@@ -67,11 +54,9 @@ returns-2 c =
     let l = lent-fit (a .tallies .now) (a .self .line .code) (s .pre .0) (s .pre .1) (w .0 .0) (sym (c .before .before .before .before .before .before .read .ensures) ∙ w .1) in
     rw (c .before .before .before .before .before .before .before .before .before .if1 .taken, ← l .1) (c .before .noted .ensures)
 
--- src/tallying.rt:74:9
 untallied-requires-2 : tie.Need-untallied-requires-2
 untallied-requires-2 c κs = search needs
 
--- src/tallying.rt:61:5
 returns-3 : tie.Need-returns-3
 unfolding recorded
 returns-3 c = rw (c .before .if1 .left) (simp (c .untallied2 .ensures), refl)

@@ -1,15 +1,13 @@
 -- `fit` tests the ticks left before the sum, since 999,999 times the ticks averaged fits only then. Assumes nothing.
 use borrow.Author.Needs.{needs}
 use borrow.Author.Tests.{not-true, not-false, leb-true}
-use mathlib.Core.Path.{_≡_, sym, _∙_}
-use mathlib.Core.Bool.{true}
 use Prim.Native.Nat.{_≤_}
 use native.Mathlib.Omega.{arith}
 use lib.Dec.{leb}
-use Rattle.weight.specs.Choice.{within}
-use Rattle.weight.proofs.Tests.{both}
-use Rattle.weight.proofs.Signed.{back}
 use Rattle.event.proofs.Facts.{timers}
+use Rattle.weight.proofs.Signed.{back}
+use Rattle.weight.proofs.Tests.{both}
+use Rattle.weight.specs.Choice.{within}
 use Rattle.line.specs.Fit.{itemFit}
 use Rattle.line.proofs.item.Item.fit.Statement.{statement}
 use Rattle.line.proofs.item.Item.fit.Tie as tie

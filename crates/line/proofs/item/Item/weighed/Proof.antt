@@ -7,12 +7,12 @@ use native.Mathlib.Omega.{arith}
 use lib.IntN.{ℤ, natAbs, _+ℤ_}
 use mir.Syntax.{w64}
 use mir.Val.{SFits, toZ, ofZ}
-use Rattle.weight.specs.Mean.{meanOf, rounded}
-use Rattle.weight.specs.declared.Figure.the-variants.{Of}
-use Rattle.weight.proofs.Signed.{back, add-fits, add-back}
 use Rattle.event.proofs.Facts.{timers}
-use Rattle.line.specs.Sample.{weighed}
+use Rattle.weight.proofs.Signed.{back, add-fits, add-back}
+use Rattle.weight.specs.Mean.{rounded}
+use Rattle.weight.specs.declared.Figure.the-variants.{Of}
 use Rattle.line.proofs.Items.{averages}
+use Rattle.line.specs.Sample.{weighed}
 use Rattle.line.proofs.item.Item.weighed.Statement.{statement}
 use Rattle.line.proofs.item.Item.weighed.Tie as tie
 

@@ -1,204 +1,151 @@
+-- `accepted` gives each kind of event to its method, which finds what it asks for in the tests that were passed. Assumes nothing.
+use borrow.Author.Needs.{needs}
+use mathlib.Core.Path.{refl}
 use Rattle.line.proofs.Accepted.{accepted-tells, sample-given, cancel-given, clear-code-given, clear-all-given}
 use Rattle.line.specs.Step.{accepted}
-use mathlib.Core.Path.{refl}
-use borrow.Author.Needs.{needs}
 use Rattle.line.proofs.line.Line.accepted.Statement.{statement}
 use Rattle.line.proofs.line.Line.accepted.Tie as tie
-use Rattle.line.proofs.line.Line.accepted.Reads as reads
-use Rattle.line.proofs.line.Line.accepted.Lts as lts
-use Rattle.line.proofs.line.Line.cancel.Reads as cancel-reads
-use Rattle.line.proofs.line.Line.clear_all.Reads as clear-all-reads
-use Rattle.line.proofs.line.Line.clear_code.Reads as clear-code-reads
-use Rattle.line.proofs.line.Line.emergency.Reads as emergency-reads
-use Rattle.line.proofs.line.Line.error_reset.Reads as error-reset-reads
-use Rattle.line.proofs.line.Line.no_operation.Reads as no-operation-reads
-use Rattle.line.proofs.line.Line.recall.Reads as recall-reads
-use Rattle.line.proofs.line.Line.run.Reads as run-reads
-use Rattle.line.proofs.line.Line.sample.Reads as sample-reads
-use Rattle.line.proofs.line.Line.set_up.Reads as set-up-reads
-use Rattle.line.proofs.line.Line.stop.Reads as stop-reads
-use Rattle.line.proofs.line.Line.store.Reads as store-reads
 
--- src/apply.rt:136:27
 enum-known-e : tie.Need-enum-known-e
 enum-known-e c = search needs
 
--- src/apply.rt:136:33
 sample-requires : tie.Need-sample-requires
 sample-requires c κs =
     let s = c .before .before .before .before in
     let w = c .before .before .e .given in
     sample-given (s .args .self) (s .args .count) (s .args .active) (s .args .tallies .now) (w .0 .0) (rw (w .1) at (accepted-tells (s .args .self) (s .args .count) (s .args .active) (s .args .tallies .now) (s .args .e) (s .pre)))
 
--- src/apply.rt:137:27
 enum-told : tie.Need-enum-told
 enum-told c = search needs
 
--- src/apply.rt:137:27
 run-requires : tie.Need-run-requires
 run-requires c κs = search needs
 
--- src/apply.rt:138:28
 enum-told-2 : tie.Need-enum-told-2
 enum-told-2 c = search needs
 
--- src/apply.rt:138:28
 stop-requires : tie.Need-stop-requires
 stop-requires c κs = search needs
 
--- src/apply.rt:139:33
 enum-told-3 : tie.Need-enum-told-3
 enum-told-3 c = search needs
 
--- src/apply.rt:139:33
 emergency-requires : tie.Need-emergency-requires
 emergency-requires c κs = search needs
 
--- src/apply.rt:140:27
 enum-known-e-2 : tie.Need-enum-known-e-2
 enum-known-e-2 c = search needs
 
--- src/apply.rt:140:33
 recall-requires : tie.Need-recall-requires
 recall-requires c κs = search needs
 
--- src/apply.rt:141:42
 enum-told-4 : tie.Need-enum-told-4
 enum-told-4 c = search needs
 
--- src/apply.rt:141:30
 cancel-requires : tie.Need-cancel-requires
 cancel-requires c κs =
     let s = c .before .before .before in
     let w = c .before .enum-told4 .given in
     cancel-given (s .args .self) (s .args .count) (s .args .active) (s .args .tallies .now) (rw (w .1) at (accepted-tells (s .args .self) (s .args .count) (s .args .active) (s .args .tallies .now) (s .args .e) (s .pre)))
 
--- src/apply.rt:142:30
 enum-known-e-3 : tie.Need-enum-known-e-3
 enum-known-e-3 c = search needs
 
--- src/apply.rt:142:36
 clear-code-requires : tie.Need-clear-code-requires
 clear-code-requires c κs =
     let s = c .before .before .before .before in
     let w = c .before .before .e3 .given in
     clear-code-given (s .args .self) (s .args .count) (s .args .active) (s .args .tallies .now) (w .0 .0) (rw (w .1) at (accepted-tells (s .args .self) (s .args .count) (s .args .active) (s .args .tallies .now) (s .args .e) (s .pre)))
 
--- src/apply.rt:143:47
 enum-told-5 : tie.Need-enum-told-5
 enum-told-5 c = search needs
 
--- src/apply.rt:143:32
 clear-all-requires : tie.Need-clear-all-requires
 clear-all-requires c κs =
     let s = c .before .before .before in
     let w = c .before .enum-told5 .given in
     clear-all-given (s .args .self) (s .args .count) (s .args .active) (s .args .tallies .now) (rw (w .1) at (accepted-tells (s .args .self) (s .args .count) (s .args .active) (s .args .tallies .now) (s .args .e) (s .pre)))
 
--- src/apply.rt:144:34
 enum-told-6 : tie.Need-enum-told-6
 enum-told-6 c = search needs
 
--- src/apply.rt:144:34
 error-reset-requires : tie.Need-error-reset-requires
 error-reset-requires c κs = search needs
 
--- src/apply.rt:145:35
 enum-told-7 : tie.Need-enum-told-7
 enum-told-7 c = search needs
 
--- src/apply.rt:145:35
 no-operation-requires : tie.Need-no-operation-requires
 no-operation-requires c κs = search needs
 
--- src/apply.rt:146:26
 enum-known-e-4 : tie.Need-enum-known-e-4
 enum-known-e-4 c = search needs
 
--- src/apply.rt:146:32
 set-up-requires : tie.Need-set-up-requires
 set-up-requires c κs = search needs
 
--- src/apply.rt:147:35
 enum-told-8 : tie.Need-enum-told-8
 enum-told-8 c = search needs
 
--- src/apply.rt:147:35
 store-requires : tie.Need-store-requires
 store-requires c κs = search needs
 
--- src/apply.rt:130:5
 same-length : tie.Need-same-length
 same-length c = search needs
 
--- src/apply.rt:130:5
 returns : tie.Need-returns
 unfolding accepted
 returns c = rw (c .before .before .before .before .e .given .1) (c .before .sample .ensures)
 
--- src/apply.rt:130:5
 returns-2 : tie.Need-returns-2
 unfolding accepted
 returns-2 c = rw (c .before .enum-told .given .1) (c .run .ensures, refl)
 
--- src/apply.rt:130:5
 returns-3 : tie.Need-returns-3
 unfolding accepted
 returns-3 c = rw (c .before .enum-told2 .given .1) (c .stop .ensures, refl)
 
--- src/apply.rt:130:5
 returns-4 : tie.Need-returns-4
 unfolding accepted
 returns-4 c = rw (c .before .enum-told3 .given .1) (c .emergency .ensures, refl)
 
--- src/apply.rt:130:5
 returns-5 : tie.Need-returns-5
 unfolding accepted
 returns-5 c = rw (c .before .before .e2 .given .1) (c .recall .ensures, refl)
 
--- src/apply.rt:130:5
 same-length-2 : tie.Need-same-length-2
 same-length-2 c = search needs
 
--- src/apply.rt:130:5
 returns-6 : tie.Need-returns-6
 unfolding accepted
 returns-6 c = rw (c .before .before .before .enum-told4 .given .1) (c .before .cancel .ensures)
 
--- src/apply.rt:130:5
 same-length-3 : tie.Need-same-length-3
 same-length-3 c = search needs
 
--- src/apply.rt:130:5
 returns-7 : tie.Need-returns-7
 unfolding accepted
 returns-7 c = rw (c .before .before .before .before .e3 .given .1) (c .before .clear-code .ensures)
 
--- src/apply.rt:130:5
 same-length-4 : tie.Need-same-length-4
 same-length-4 c = search needs
 
--- src/apply.rt:130:5
 returns-8 : tie.Need-returns-8
 unfolding accepted
 returns-8 c = rw (c .before .before .before .enum-told5 .given .1) (c .before .clear-all .ensures)
 
--- src/apply.rt:130:5
 returns-9 : tie.Need-returns-9
 unfolding accepted
 returns-9 c = rw (c .before .enum-told6 .given .1) (c .error-reset .ensures, refl)
 
--- src/apply.rt:130:5
 returns-10 : tie.Need-returns-10
 unfolding accepted
 returns-10 c = rw (c .before .enum-told7 .given .1) (c .no-operation .ensures, refl)
 
--- src/apply.rt:130:5
 returns-11 : tie.Need-returns-11
 unfolding accepted
 returns-11 c = rw (c .before .before .e4 .given .1) (c .set-up .ensures, refl)
 
--- src/apply.rt:130:5
 returns-12 : tie.Need-returns-12
 unfolding accepted
 returns-12 c = rw (c .before .enum-told8 .given .1) (c .store .ensures, refl)

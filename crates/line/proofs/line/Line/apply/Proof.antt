@@ -1,31 +1,23 @@
-use Rattle.line.specs.Step.{stepOf}
-use Rattle.line.specs.Refusal.{refusalOf}
+-- `apply` is the refusal's reply, or what the accepted event does. Assumes nothing.
+use borrow.Author.Needs.{needs}
 use borrow.Author.Tests.{eq-eqb, ne-eqb}
-use lib.Dec.{eqb}
 use mathlib.Core.Bool.{false}
 use mathlib.Core.Path.{_≡_, refl, sym, _∙_}
-use borrow.Author.Needs.{needs}
+use lib.Dec.{eqb}
+use Rattle.line.specs.Refusal.{refusalOf}
+use Rattle.line.specs.Step.{stepOf}
 use Rattle.line.proofs.line.Line.apply.Statement.{statement}
 use Rattle.line.proofs.line.Line.apply.Tie as tie
-use Rattle.line.proofs.line.Line.apply.Reads as reads
-use Rattle.line.proofs.line.Line.apply.Lts as lts
-use Rattle.line.proofs.line.Line.accepted.Reads as accepted-reads
-use Rattle.line.proofs.line.Line.input.Reads as input-reads
-use Rattle.line.proofs.line.Line.refusal.Reads as refusal-reads
 
--- src/apply.rt:157:13
 refusal-requires : tie.Need-refusal-requires
 refusal-requires c κs = search needs
 
--- src/apply.rt:161:24
 input-requires : tie.Need-input-requires
 input-requires c κs = search needs
 
--- src/apply.rt:163:13
 same-length : tie.Need-same-length
 same-length c = search needs
 
--- src/apply.rt:163:13
 returns : tie.Need-returns
 unfolding stepOf
 returns c =
@@ -36,15 +28,12 @@ returns c =
     let z : eqb n 0 ≡ false = ne-eqb n 0 (λ h. c .before .if1 .taken (is ∙ h)) in
     rw z (rw (c .input .ensures, is) refl, refl)
 
--- src/apply.rt:168:9
 accepted-requires : tie.Need-accepted-requires
 accepted-requires c κs = search needs
 
--- src/apply.rt:153:5
 same-length-2 : tie.Need-same-length-2
 same-length-2 c = search needs
 
--- src/apply.rt:153:5
 returns-2 : tie.Need-returns-2
 unfolding stepOf
 returns-2 c =

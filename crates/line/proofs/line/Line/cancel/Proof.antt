@@ -1,38 +1,29 @@
-use Rattle.line.specs.declared.line.Line.{Line}
-use Rattle.line.specs.Effect.{plain}
-use Rattle.line.specs.Line.{withUndo}
-use Rattle.tally.specs.Memory.{withTally}
-use lib.IntN.{ℤ}
+-- `cancel` puts the kept tally back, which is fit. Assumes nothing.
+use borrow.Author.Needs.{needs}
 use mathlib.Core.List.{List}
+use mathlib.Core.Bool.{true}
+use mathlib.Core.Path.{_≡_, _∙_, sym, ap}
+use lib.IntN.{ℤ}
+use Rattle.tally.specs.Memory.{withTally}
+use Rattle.tally.specs.Tally.{tallyFit}
+use Rattle.tally.specs.declared.tally.Tally.{Tally}
 use Rattle.line.proofs.Tallies.{written-is}
+use Rattle.line.specs.Effect.{plain}
+use Rattle.line.specs.Fit.{undoFit}
+use Rattle.line.specs.Line.{withUndo}
+use Rattle.line.specs.Tallying.{cancelled, Out, stepIn, untallied}
+use Rattle.line.specs.declared.line.Line.{Line}
 use Rattle.line.specs.declared.line.Undo.the-variants.{Kept, Nothing}
 use Rattle.line.specs.declared.line.Undo.{Undo}
-use Rattle.line.specs.Tallying.{cancelled, Out, stepIn, untallied}
-use Rattle.line.specs.Fit.{undoFit}
-use Rattle.tally.specs.declared.tally.Tally.{Tally}
-use Rattle.tally.specs.Tally.{tallyFit}
-use mathlib.Core.Bool.{true}
-use mathlib.Core.Path.{_≡_, refl, _∙_, sym, ap}
-use borrow.Author.Needs.{needs}
 use Rattle.line.proofs.line.Line.cancel.Statement.{statement}
 use Rattle.line.proofs.line.Line.cancel.Tie as tie
-use Rattle.line.proofs.line.Line.cancel.Reads as reads
-use Rattle.line.proofs.line.Line.cancel.Lts as lts
-use Rattle.line.proofs.effect.Effect.plain.Reads as plain-reads
-use Rattle.line.proofs.effect.Effect.untallied.Reads as untallied-reads
-use Rattle.line.proofs.line.Line.no_operation.Reads as no-operation-reads
-use Rattle.line.proofs.line.Line.with_undo.Reads as with-undo-reads
-use Rattle.tally.proofs.write.Reads as write-reads
 
--- src/apply.rt:93:24
 enum-known-undo : tie.Need-enum-known-undo
 enum-known-undo c = search needs
 
--- src/apply.rt:94:13
 enum-told : tie.Need-enum-told
 enum-told c = search needs
 
--- src/apply.rt:94:13
 no-operation-requires : tie.Need-no-operation-requires
 no-operation-requires c κs = search needs
 
@@ -49,34 +40,27 @@ kept-fit : (u : Undo) (t : Tally) → u ≡ Kept t → undoFit u ≡ true → ta
 unfolding undoFit
 kept-fit u t e h = rw e at h
 
--- src/apply.rt:94:13
 returns : tie.Need-returns
 returns c =
     let s = c .before .before .before in
     let e = cancelled-nothing (s .args .self) (s .args .tallies .now) (s .args .self .undo) (c .before .enum-told .given .1) in
     (c .no-operation .ensures ∙ ap stepIn (sym e), ap (λ (o : Out). o .tallies) (sym e))
 
--- src/apply.rt:96:9
 write-requires : tie.Need-write-requires
 write-requires c κs = search needs
 
--- src/apply.rt:97:23
 with-undo-requires : tie.Need-with-undo-requires
 with-undo-requires c κs = search needs
 
--- src/apply.rt:97:9
 plain-requires : tie.Need-plain-requires
 plain-requires c κs = search needs
 
--- src/apply.rt:97:9
 untallied-requires : tie.Need-untallied-requires
 untallied-requires c κs = search needs
 
--- src/apply.rt:87:5
 same-length : tie.Need-same-length
 same-length c = search needs
 
--- src/apply.rt:87:5
 returns-2 : tie.Need-returns-2
 returns-2 c =
     let s = c .before .before .before .before .before .before .before .before .before in

@@ -1,39 +1,27 @@
-use Rattle.line.proofs.Tallies.{written-is}
-use Rattle.tally.specs.Tally.{emptyTally, tallyFit}
+-- `clear_code` empties a code's part. Assumes nothing.
+use borrow.Author.Needs.{needs}
 use mathlib.Core.Bool.{true}
 use mathlib.Core.Path.{_≡_, refl, _∙_}
-use borrow.Author.Needs.{needs}
+use Rattle.tally.specs.Tally.{emptyTally, tallyFit}
+use Rattle.line.proofs.Tallies.{written-is}
 use Rattle.line.proofs.line.Line.clear_code.Statement.{statement}
 use Rattle.line.proofs.line.Line.clear_code.Tie as tie
-use Rattle.line.proofs.line.Line.clear_code.Reads as reads
-use Rattle.line.proofs.line.Line.clear_code.Lts as lts
-use Rattle.line.proofs.effect.Effect.plain.Reads as plain-reads
-use Rattle.line.proofs.effect.Effect.untallied.Reads as untallied-reads
-use Rattle.line.proofs.line.Line.code_cleared.Reads as code-cleared-reads
-use Rattle.tally.proofs.write.Reads as write-reads
-use Rattle.tally.proofs.tally.Tally.empty.Reads as empty-reads
 
--- src/apply.rt:115:37
 empty-requires : tie.Need-empty-requires
 empty-requires c κs = search needs
 
--- src/apply.rt:115:9
 write-requires : tie.Need-write-requires
 write-requires c κs = search needs
 
--- src/apply.rt:116:23
 code-cleared-requires : tie.Need-code-cleared-requires
 code-cleared-requires c κs = search needs
 
--- src/apply.rt:116:9
 plain-requires : tie.Need-plain-requires
 plain-requires c κs = search needs
 
--- src/apply.rt:116:9
 untallied-requires : tie.Need-untallied-requires
 untallied-requires c κs = search needs
 
--- src/apply.rt:110:5
 same-length : tie.Need-same-length
 same-length c = search needs
 
@@ -41,7 +29,6 @@ empty-fit : tallyFit emptyTally ≡ true
 unfolding tallyFit
 empty-fit = refl
 
--- src/apply.rt:110:5
 returns : tie.Need-returns
 returns c =
     let s = c .before .before .before .before .before .before .before in

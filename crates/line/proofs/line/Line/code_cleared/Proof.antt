@@ -1,22 +1,17 @@
-use Rattle.line.specs.Tallying.{codeCleared}
-use borrow.Author.Tests.{eq-eqb, ne-eqb}
+-- `code_cleared` equals its definition `codeCleared`. Assumes nothing.
 use borrow.Author.Needs.{needs}
+use borrow.Author.Tests.{eq-eqb, ne-eqb}
+use Rattle.line.specs.Tallying.{codeCleared}
 use Rattle.line.proofs.line.Line.code_cleared.Statement.{statement}
 use Rattle.line.proofs.line.Line.code_cleared.Tie as tie
-use Rattle.line.proofs.line.Line.code_cleared.Reads as reads
-use Rattle.line.proofs.line.Line.code_cleared.Lts as lts
-use Rattle.line.proofs.line.Line.with_undo.Reads as with-undo-reads
 
--- src/apply.rt:105:13
 with-undo-requires : tie.Need-with-undo-requires
 with-undo-requires c κs = search needs
 
--- src/apply.rt:105:13
 returns : tie.Need-returns
 unfolding codeCleared
 returns c = simp (c .with-undo .ensures, eq-eqb _ _ (c .before .if1 .taken))
 
--- src/apply.rt:101:5
 returns-2 : tie.Need-returns-2
 unfolding codeCleared
 returns-2 c = simp (ne-eqb _ _ (c .if1 .left))

@@ -1,30 +1,23 @@
+-- `guarded` equals its definition `guarded`. Assumes nothing.
+use borrow.Author.Needs.{needs}
+use borrow.Author.Tests.{eq-eqb, ne-eqb}
 use mir.Facts.{toZ-ofZ}
 use Rattle.line.specs.Sample.{guarded}
-use borrow.Author.Tests.{eq-eqb, ne-eqb}
-use borrow.Author.Needs.{needs}
 use Rattle.line.proofs.line.Line.guarded.Statement.{statement}
 use Rattle.line.proofs.line.Line.guarded.Tie as tie
-use Rattle.line.proofs.line.Line.guarded.Reads as reads
-use Rattle.line.proofs.line.Line.guarded.Lts as lts
-use Rattle.line.proofs.effect.Effect.plain.Reads as plain-reads
-use Rattle.line.proofs.line.Line.running_tick.Reads as running-tick-reads
 
--- src/sample.rt:146:13
 running-tick-requires : tie.Need-running-tick-requires
 running-tick-requires c κs = search needs
 
--- src/sample.rt:146:13
 returns : tie.Need-returns
 unfolding guarded
 returns c =
     let b = toZ-ofZ (c .before .before .before .fits .gross) in
     simp (rw b at (c .running-tick .ensures), eq-eqb _ _ (c .before .if1 .taken))
 
--- src/sample.rt:148:9
 plain-requires : tie.Need-plain-requires
 plain-requires c κs = search needs
 
--- src/sample.rt:141:5
 returns-2 : tie.Need-returns-2
 unfolding guarded
 returns-2 c = simp (c .plain .ensures, ne-eqb _ _ (c .before .if1 .left))

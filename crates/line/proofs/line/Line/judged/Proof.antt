@@ -1,28 +1,23 @@
+-- `judged` equals its definition `judged`. Assumes nothing.
+use borrow.Author.Needs.{needs}
 use borrow.Author.Tests.{leb-true}
 use Prim.Native.Nat.{_+_, _<_, _^_}
 use native.Mathlib.Omega.{arith}
 use lib.IntN.{pos, natAbs}
 use lib.Signed.{leZ}
-use Rattle.weight.specs.Weight.{isWeight}
-use Rattle.weight.proofs.Tests.{both}
-use Rattle.settings.proofs.Facts.{loads}
 use mir.Val.{SFits}
 use mir.Syntax.{w64}
+use Rattle.settings.proofs.Facts.{loads}
 use Rattle.weight.proofs.Signed.{le-was, sub-fits, sub-back}
+use Rattle.weight.proofs.Tests.{both}
+use Rattle.weight.specs.Weight.{isWeight}
 use Rattle.line.specs.Verdict.{judged}
-use borrow.Author.Needs.{needs}
 use Rattle.line.proofs.line.Line.judged.Statement.{statement}
 use Rattle.line.proofs.line.Line.judged.Tie as tie
-use Rattle.line.proofs.line.Line.judged.Reads as reads
-use Rattle.line.proofs.line.Line.judged.Lts as lts
-use Rattle.line.proofs.effect.Effect.dismissed.Reads as dismissed-reads
-use Rattle.line.proofs.line.Line.verdict_of.Reads as verdict-of-reads
 
--- src/verdict.rt:100:13
 dismissed-requires : tie.Need-dismissed-requires
 dismissed-requires c κs = search needs
 
--- src/verdict.rt:100:13
 returns : tie.Need-returns
 unfolding judged
 returns c =
@@ -36,17 +31,14 @@ sizes s =
     let t = both (leZ (pos 0) (s .args .active .tare)) (isWeight (s .args .active .tare)) (loads (s .args .active) (s .pre .0) .tare) in
     omega (arith, leb-true (natAbs (s .args .m)) 999999 (s .pre .1), leb-true (natAbs (s .args .active .tare)) 999999 (t .1))
 
--- src/verdict.rt:102:19
 sub-net : tie.Need-sub-net
 sub-net c =
     let s = c .before .before .before .before .before in
     sub-fits (s .args .m) (s .args .active .tare) (s .fits .m) (record { sfits = c .struct-told2 .given .1 .1 .1 .1 .1 .1 .0 .1 }) (sizes s)
 
--- src/verdict.rt:103:9
 verdict-of-requires : tie.Need-verdict-of-requires
 verdict-of-requires c κs = search needs
 
--- src/verdict.rt:95:5
 returns-2 : tie.Need-returns-2
 unfolding judged
 returns-2 c =

@@ -1,30 +1,22 @@
-use Rattle.line.proofs.Facts.{fit-tells}
-use Rattle.line.specs.Refusal.{memorySound, readsRecord}
-use Rattle.line.specs.Fit.{lineFit}
-use Rattle.tally.specs.Memory.{talliesLength}
-use Rattle.settings.specs.Settings.{recordFit}
-use Rattle.weight.proofs.Tests.{both}
+-- `memory_sound` equals its definition `memorySound`. Assumes nothing.
+use borrow.Author.Needs.{needs}
+use borrow.Author.Tests.{not-true, not-false, eqb-true}
+use mathlib.Core.Bool.{true, _&&_, _||_, not, and-true, false}
+use mathlib.Core.Path.{_≡_, sym, _∙_}
 use lib.ListN.{length}
 use lib.Dec.{eqb}
-use borrow.Author.Tests.{not-true, not-false, eqb-true}
-use mathlib.Core.Bool.{Bool, true, _&&_, _||_, not, and-true, false}
-use mathlib.Core.Path.{_≡_, sym, _∙_}
-use borrow.Author.Needs.{needs}
+use Rattle.settings.specs.Settings.{recordFit}
+use Rattle.tally.specs.Memory.{talliesLength}
+use Rattle.weight.proofs.Tests.{both}
+use Rattle.line.proofs.Facts.{fit-tells}
+use Rattle.line.specs.Fit.{lineFit}
+use Rattle.line.specs.Refusal.{memorySound, readsRecord}
 use Rattle.line.proofs.line.Line.memory_sound.Statement.{statement}
 use Rattle.line.proofs.line.Line.memory_sound.Tie as tie
-use Rattle.line.proofs.line.Line.memory_sound.Reads as reads
-use Rattle.line.proofs.line.Line.memory_sound.Lts as lts
-use Rattle.line.proofs.line.Line.fit.Reads as line-Line-fit-reads
-use Rattle.line.proofs.refusal.reads_record.Reads as reads-record-reads
-use Rattle.line.proofs.refusal.reads_tally.Reads as reads-tally-reads
-use Rattle.line.proofs.refusal.tally_fit.Reads as tally-fit-reads
-use Rattle.settings.proofs.Settings.fit.Reads as Settings-fit-reads
 
--- src/refusal.rt:98:57
 fit-requires : tie.Need-fit-requires
 fit-requires c κs = search needs
 
--- src/refusal.rt:99:13
 returns : tie.Need-returns
 unfolding memorySound
 returns c =
@@ -32,15 +24,12 @@ returns c =
     let t : eqb (a .count) 100 && eqb (length (a .tallies .now)) 1300 && c .before .fit .result ≡ false = not-true _ (c .if1 .taken) in
     simp (rw (c .before .fit .ensures) at t)
 
--- src/refusal.rt:101:29
 reads-record-requires : tie.Need-reads-record-requires
 reads-record-requires c κs = search needs
 
--- src/refusal.rt:101:47
 fit-requires-2 : tie.Need-fit-requires-2
 fit-requires-2 c κs = search needs
 
--- src/refusal.rt:102:12
 reads-tally-requires : tie.Need-reads-tally-requires
 reads-tally-requires c κs = search needs
 
@@ -63,12 +52,10 @@ tally-fit-requires c κs =
     let t = tested (c .before .before .before .before) in
     (fit-tells _ (t .1) .code, t .0)
 
--- src/refusal.rt:103:13
 returns-2 : tie.Need-returns-2
 unfolding memorySound
 returns-2 c = simp (c .tally-fit .ensures, c .before .before .before .fit2 .ensures, c .before .before .before .before .reads-record .ensures, sym (c .before .before .reads-tally .ensures) ∙ c .before .if2 .taken, first (c .before .before .before .before .before))
 
--- src/refusal.rt:95:5
 returns-3 : tie.Need-returns-3
 unfolding memorySound
 returns-3 c =

@@ -1,119 +1,92 @@
-use Rattle.line.specs.Refusal.{nothingToCancel}
+-- `nothing_to_cancel` equals its definition `nothingToCancel`. Assumes nothing.
 use borrow.Author.Needs.{needs}
+use Rattle.line.specs.Refusal.{nothingToCancel}
 use Rattle.line.proofs.line.Line.nothing_to_cancel.Statement.{statement}
 use Rattle.line.proofs.line.Line.nothing_to_cancel.Tie as tie
-use Rattle.line.proofs.line.Line.nothing_to_cancel.Reads as reads
-use Rattle.line.proofs.line.Line.nothing_to_cancel.Lts as lts
-use Rattle.line.proofs.line.Undo.is_nothing.Reads as is-nothing-reads
 
--- src/refusal.rt:154:33
 enum-told : tie.Need-enum-told
 enum-told c = search needs
 
--- src/refusal.rt:155:27
 enum-told-2 : tie.Need-enum-told-2
 enum-told-2 c = search needs
 
--- src/refusal.rt:156:28
 enum-told-3 : tie.Need-enum-told-3
 enum-told-3 c = search needs
 
--- src/refusal.rt:157:33
 enum-told-4 : tie.Need-enum-told-4
 enum-told-4 c = search needs
 
--- src/refusal.rt:158:33
 enum-told-5 : tie.Need-enum-told-5
 enum-told-5 c = search needs
 
--- src/refusal.rt:159:30
 enum-told-6 : tie.Need-enum-told-6
 enum-told-6 c = search needs
 
--- src/refusal.rt:159:30
 is-nothing-requires : tie.Need-is-nothing-requires
 is-nothing-requires c κs = search needs
 
--- src/refusal.rt:160:36
 enum-told-7 : tie.Need-enum-told-7
 enum-told-7 c = search needs
 
--- src/refusal.rt:161:32
 enum-told-8 : tie.Need-enum-told-8
 enum-told-8 c = search needs
 
--- src/refusal.rt:162:34
 enum-told-9 : tie.Need-enum-told-9
 enum-told-9 c = search needs
 
--- src/refusal.rt:163:35
 enum-told-10 : tie.Need-enum-told-10
 enum-told-10 c = search needs
 
--- src/refusal.rt:164:32
 enum-told-11 : tie.Need-enum-told-11
 enum-told-11 c = search needs
 
--- src/refusal.rt:165:35
 enum-told-12 : tie.Need-enum-told-12
 enum-told-12 c = search needs
 
--- src/refusal.rt:149:5
 returns : tie.Need-returns
 unfolding nothingToCancel
 returns c = simp (c .enum-told .given .1)
 
--- src/refusal.rt:149:5
 returns-2 : tie.Need-returns-2
 unfolding nothingToCancel
 returns-2 c = simp (c .enum-told2 .given .1)
 
--- src/refusal.rt:149:5
 returns-3 : tie.Need-returns-3
 unfolding nothingToCancel
 returns-3 c = simp (c .enum-told3 .given .1)
 
--- src/refusal.rt:149:5
 returns-4 : tie.Need-returns-4
 unfolding nothingToCancel
 returns-4 c = simp (c .enum-told4 .given .1)
 
--- src/refusal.rt:149:5
 returns-5 : tie.Need-returns-5
 unfolding nothingToCancel
 returns-5 c = simp (c .enum-told5 .given .1)
 
--- src/refusal.rt:149:5
 returns-6 : tie.Need-returns-6
 unfolding nothingToCancel
 returns-6 c = simp (c .is-nothing .ensures, c .before .enum-told6 .given .1)
 
--- src/refusal.rt:149:5
 returns-7 : tie.Need-returns-7
 unfolding nothingToCancel
 returns-7 c = simp (c .enum-told7 .given .1)
 
--- src/refusal.rt:149:5
 returns-8 : tie.Need-returns-8
 unfolding nothingToCancel
 returns-8 c = simp (c .enum-told8 .given .1)
 
--- src/refusal.rt:149:5
 returns-9 : tie.Need-returns-9
 unfolding nothingToCancel
 returns-9 c = simp (c .enum-told9 .given .1)
 
--- src/refusal.rt:149:5
 returns-10 : tie.Need-returns-10
 unfolding nothingToCancel
 returns-10 c = simp (c .enum-told10 .given .1)
 
--- src/refusal.rt:149:5
 returns-11 : tie.Need-returns-11
 unfolding nothingToCancel
 returns-11 c = simp (c .enum-told11 .given .1)
 
--- src/refusal.rt:149:5
 returns-12 : tie.Need-returns-12
 unfolding nothingToCancel
 returns-12 c = simp (c .enum-told12 .given .1)

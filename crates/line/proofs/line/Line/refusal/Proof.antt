@@ -1,83 +1,60 @@
-use Rattle.line.specs.Refusal.{refusalOf}
-use mathlib.Core.Path.{_∙_, sym}
-use borrow.Author.Tests.{not-false, not-true}
+-- `refusal` equals its definition `refusalOf`. Assumes nothing.
 use borrow.Author.Needs.{needs}
+use borrow.Author.Tests.{not-false, not-true}
+use mathlib.Core.Path.{_∙_, sym}
+use Rattle.line.specs.Refusal.{refusalOf}
 use Rattle.line.proofs.line.Line.refusal.Statement.{statement}
 use Rattle.line.proofs.line.Line.refusal.Tie as tie
-use Rattle.line.proofs.line.Line.refusal.Reads as reads
-use Rattle.line.proofs.line.Line.refusal.Lts as lts
-use Rattle.event.proofs.Event.agrees.Reads as agrees-reads
-use Rattle.event.proofs.Event.ranged.Reads as ranged-reads
-use Rattle.line.proofs.line.Line.memory_sound.Reads as memory-sound-reads
-use Rattle.line.proofs.line.Line.nothing_to_cancel.Reads as nothing-to-cancel-reads
-use Rattle.line.proofs.line.Line.run_occupied.Reads as run-occupied-reads
-use Rattle.line.proofs.line.Line.run_unsafe.Reads as run-unsafe-reads
-use Rattle.line.proofs.line.Line.status_wrong.Reads as status-wrong-reads
 
--- src/refusal.rt:173:13
 memory-sound-requires : tie.Need-memory-sound-requires
 memory-sound-requires c κs = search needs
 
--- src/refusal.rt:174:13
 returns : tie.Need-returns
 unfolding refusalOf
 returns c = simp (sym (c .before .memory-sound .ensures) ∙ not-true _ (c .if1 .taken))
 
--- src/refusal.rt:176:13
 ranged-requires : tie.Need-ranged-requires
 ranged-requires c κs = search needs
 
--- src/refusal.rt:177:13
 returns-2 : tie.Need-returns-2
 unfolding refusalOf
 returns-2 c = simp (sym (c .before .ranged .ensures) ∙ not-true _ (c .if2 .taken), sym (c .before .before .before .memory-sound .ensures) ∙ not-false _ (c .before .before .if1 .left))
 
--- src/refusal.rt:179:12
 status-wrong-requires : tie.Need-status-wrong-requires
 status-wrong-requires c κs = search needs
 
--- src/refusal.rt:180:13
 returns-3 : tie.Need-returns-3
 unfolding refusalOf
 returns-3 c = simp (sym (c .before .status-wrong .ensures) ∙ c .if3 .taken, sym (c .before .before .before .ranged .ensures) ∙ not-false _ (c .before .before .if2 .left), sym (c .before .before .before .before .before .memory-sound .ensures) ∙ not-false _ (c .before .before .before .before .if1 .left))
 
--- src/refusal.rt:182:13
 agrees-requires : tie.Need-agrees-requires
 agrees-requires c κs = search needs
 
--- src/refusal.rt:183:13
 returns-4 : tie.Need-returns-4
 unfolding refusalOf
 returns-4 c = simp (sym (c .before .agrees .ensures) ∙ not-true _ (c .if4 .taken), sym (c .before .before .before .status-wrong .ensures) ∙ c .before .before .if3 .left, sym (c .before .before .before .before .before .ranged .ensures) ∙ not-false _ (c .before .before .before .before .if2 .left), sym (c .before .before .before .before .before .before .before .memory-sound .ensures) ∙ not-false _ (c .before .before .before .before .before .before .if1 .left))
 
--- src/refusal.rt:185:12
 run-unsafe-requires : tie.Need-run-unsafe-requires
 run-unsafe-requires c κs = search needs
 
--- src/refusal.rt:186:13
 returns-5 : tie.Need-returns-5
 unfolding refusalOf
 returns-5 c = simp (sym (c .before .run-unsafe .ensures) ∙ c .if5 .taken, sym (c .before .before .before .agrees .ensures) ∙ not-false _ (c .before .before .if4 .left), sym (c .before .before .before .before .before .status-wrong .ensures) ∙ c .before .before .before .before .if3 .left, sym (c .before .before .before .before .before .before .before .ranged .ensures) ∙ not-false _ (c .before .before .before .before .before .before .if2 .left), sym (c .before .before .before .before .before .before .before .before .before .memory-sound .ensures) ∙ not-false _ (c .before .before .before .before .before .before .before .before .if1 .left))
 
--- src/refusal.rt:188:12
 run-occupied-requires : tie.Need-run-occupied-requires
 run-occupied-requires c κs = search needs
 
--- src/refusal.rt:189:13
 returns-6 : tie.Need-returns-6
 unfolding refusalOf
 returns-6 c = simp (sym (c .before .run-occupied .ensures) ∙ c .if6 .taken, sym (c .before .before .before .run-unsafe .ensures) ∙ c .before .before .if5 .left, sym (c .before .before .before .before .before .agrees .ensures) ∙ not-false _ (c .before .before .before .before .if4 .left), sym (c .before .before .before .before .before .before .before .status-wrong .ensures) ∙ c .before .before .before .before .before .before .if3 .left, sym (c .before .before .before .before .before .before .before .before .before .ranged .ensures) ∙ not-false _ (c .before .before .before .before .before .before .before .before .if2 .left), sym (c .before .before .before .before .before .before .before .before .before .before .before .memory-sound .ensures) ∙ not-false _ (c .before .before .before .before .before .before .before .before .before .before .if1 .left))
 
--- src/refusal.rt:191:12
 nothing-to-cancel-requires : tie.Need-nothing-to-cancel-requires
 nothing-to-cancel-requires c κs = search needs
 
--- src/refusal.rt:192:13
 returns-7 : tie.Need-returns-7
 unfolding refusalOf
 returns-7 c = simp (sym (c .before .nothing-to-cancel .ensures) ∙ c .if7 .taken, sym (c .before .before .before .run-occupied .ensures) ∙ c .before .before .if6 .left, sym (c .before .before .before .before .before .run-unsafe .ensures) ∙ c .before .before .before .before .if5 .left, sym (c .before .before .before .before .before .before .before .agrees .ensures) ∙ not-false _ (c .before .before .before .before .before .before .if4 .left), sym (c .before .before .before .before .before .before .before .before .before .status-wrong .ensures) ∙ c .before .before .before .before .before .before .before .before .if3 .left, sym (c .before .before .before .before .before .before .before .before .before .before .before .ranged .ensures) ∙ not-false _ (c .before .before .before .before .before .before .before .before .before .before .if2 .left), sym (c .before .before .before .before .before .before .before .before .before .before .before .before .before .memory-sound .ensures) ∙ not-false _ (c .before .before .before .before .before .before .before .before .before .before .before .before .if1 .left))
 
--- src/refusal.rt:170:5
 returns-8 : tie.Need-returns-8
 unfolding refusalOf
 returns-8 c = simp (sym (c .before .nothing-to-cancel .ensures) ∙ c .if7 .left, sym (c .before .before .before .run-occupied .ensures) ∙ c .before .before .if6 .left, sym (c .before .before .before .before .before .run-unsafe .ensures) ∙ c .before .before .before .before .if5 .left, sym (c .before .before .before .before .before .before .before .agrees .ensures) ∙ not-false _ (c .before .before .before .before .before .before .if4 .left), sym (c .before .before .before .before .before .before .before .before .before .status-wrong .ensures) ∙ c .before .before .before .before .before .before .before .before .if3 .left, sym (c .before .before .before .before .before .before .before .before .before .before .before .ranged .ensures) ∙ not-false _ (c .before .before .before .before .before .before .before .before .before .before .if2 .left), sym (c .before .before .before .before .before .before .before .before .before .before .before .before .before .memory-sound .ensures) ∙ not-false _ (c .before .before .before .before .before .before .before .before .before .before .before .before .if1 .left))

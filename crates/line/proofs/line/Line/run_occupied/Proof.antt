@@ -1,17 +1,13 @@
-use Rattle.line.specs.Refusal.{runOccupied}
-use Rattle.weight.proofs.Signed.{back}
+-- `run_occupied` equals its definition `runOccupied`. Assumes nothing.
 use borrow.Author.Needs.{needs}
+use Rattle.weight.proofs.Signed.{back}
+use Rattle.line.specs.Refusal.{runOccupied}
 use Rattle.line.proofs.line.Line.run_occupied.Statement.{statement}
 use Rattle.line.proofs.line.Line.run_occupied.Tie as tie
-use Rattle.line.proofs.line.Line.run_occupied.Reads as reads
-use Rattle.line.proofs.line.Line.run_occupied.Lts as lts
-use Rattle.line.proofs.refusal.is_run.Reads as is-run-reads
 
--- src/refusal.rt:146:9
 is-run-requires : tie.Need-is-run-requires
 is-run-requires c κs = search needs
 
--- src/refusal.rt:142:5
 returns : tie.Need-returns
 unfolding runOccupied
 returns c =

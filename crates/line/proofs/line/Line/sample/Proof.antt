@@ -1,19 +1,14 @@
-use Rattle.line.proofs.Ticks.{sample-goes}
-use Rattle.line.proofs.Facts.{fit-tells}
-use Rattle.event.proofs.Facts.{in-range}
+-- `sample` records what the seven steps gave; the net is a weight, and the code is the one at entry. Assumes nothing.
 use borrow.Author.Needs.{needs}
+use Rattle.event.proofs.Facts.{in-range}
+use Rattle.line.proofs.Facts.{fit-tells}
+use Rattle.line.proofs.Ticks.{sample-goes}
 use Rattle.line.proofs.line.Line.sample.Statement.{statement}
 use Rattle.line.proofs.line.Line.sample.Tie as tie
-use Rattle.line.proofs.line.Line.sample.Reads as reads
-use Rattle.line.proofs.line.Line.sample.Lts as lts
-use Rattle.line.proofs.effect.Effect.recorded.Reads as recorded-reads
-use Rattle.line.proofs.line.Line.sampled.Reads as sampled-reads
 
--- src/apply.rt:84:9
 sampled-requires : tie.Need-sampled-requires
 sampled-requires c κs = search needs
 
--- src/apply.rt:84:9
 recorded-requires : tie.Need-recorded-requires
 recorded-requires c κs =
     let s = c .before .before in
@@ -21,11 +16,9 @@ recorded-requires c κs =
     let g = sample-goes (a .self) (a .active) (a .s) (fit-tells (a .self) (s .pre .0)) (s .pre .1) (in-range (a .s) (s .pre .2)) in
     rw (c .before .sampled .ensures) (g .fit .code, s .pre .3, rw (g .code) (s .pre .4), g .net)
 
--- src/apply.rt:79:5
 same-length : tie.Need-same-length
 same-length c = search needs
 
--- src/apply.rt:79:5
 returns : tie.Need-returns
 returns c = rw (← c .before .before .before .sampled .ensures) (c .before .recorded .ensures)
 

@@ -1,36 +1,25 @@
-use Rattle.line.proofs.Steps.{ready-step1, ready-step2}
-use Rattle.line.proofs.Facts.{fit-tells}
+-- `sampled` equals its definition `sampled`. Assumes nothing.
+use borrow.Author.Needs.{needs}
 use Rattle.event.proofs.Facts.{in-range}
 use Rattle.weight.proofs.Signed.{back}
+use Rattle.line.proofs.Facts.{fit-tells}
+use Rattle.line.proofs.Steps.{ready-step1, ready-step2}
 use Rattle.line.specs.Sample.{sampled, step1}
-use borrow.Author.Needs.{needs}
 use Rattle.line.proofs.line.Line.sampled.Statement.{statement}
 use Rattle.line.proofs.line.Line.sampled.Tie as tie
-use Rattle.line.proofs.line.Line.sampled.Reads as reads
-use Rattle.line.proofs.line.Line.sampled.Lts as lts
-use Rattle.line.proofs.line.Line.foreign_rises.Reads as foreign-rises-reads
-use Rattle.line.proofs.line.Line.from_step3.Reads as from-step3-reads
-use Rattle.line.proofs.line.Line.step1.Reads as step1-reads
-use Rattle.line.proofs.line.Line.step2.Reads as step2-reads
-use Rattle.line.proofs.sample.edge_made.Reads as edge-made-reads
 
--- src/sample.rt:167:13
 foreign-rises-requires : tie.Need-foreign-rises-requires
 foreign-rises-requires c κs = search needs
 
--- src/sample.rt:168:13
 step1-requires : tie.Need-step1-requires
 step1-requires c κs = search needs
 
--- src/sample.rt:169:13
 edge-made-requires : tie.Need-edge-made-requires
 edge-made-requires c κs = search needs
 
--- src/sample.rt:170:26
 step2-requires : tie.Need-step2-requires
 step2-requires c κs = search needs
 
--- src/sample.rt:170:9
 from-step3-requires : tie.Need-from-step3-requires
 from-step3-requires c κs =
     let s = c .before .before .before .before .before in
@@ -39,7 +28,6 @@ from-step3-requires c κs =
     rw (c .before .step2 .ensures, c .before .before .before .step1 .ensures, back (s .args .s .gross) (c .struct-told .given .0 .1))
     (r .setup, r .item, s .pre .1, in-range (s .args .s) (s .pre .2) .gross)
 
--- src/sample.rt:163:5
 returns : tie.Need-returns
 unfolding sampled
 returns c =

@@ -1,11 +1,9 @@
+-- `sorter_on` equals its definition `sorterOn`. Assumes nothing.
 use mathlib.Core.Path.{refl}
 use Rattle.line.specs.Line.{sorterOn}
 use Rattle.line.proofs.line.Line.sorter_on.Statement.{statement}
 use Rattle.line.proofs.line.Line.sorter_on.Tie as tie
-use Rattle.line.proofs.line.Line.sorter_on.Reads as reads
-use Rattle.line.proofs.line.Line.sorter_on.Lts as lts
 
--- src/line.rt:117:5
 returns : tie.Need-returns
 unfolding sorterOn
 returns c = refl

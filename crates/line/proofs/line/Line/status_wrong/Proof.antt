@@ -1,114 +1,89 @@
-use Rattle.line.specs.Refusal.{statusWrong}
+-- `status_wrong` equals its definition `statusWrong`. Assumes nothing.
 use borrow.Author.Needs.{needs}
+use Rattle.line.specs.Refusal.{statusWrong}
 use Rattle.line.proofs.line.Line.status_wrong.Statement.{statement}
 use Rattle.line.proofs.line.Line.status_wrong.Tie as tie
-use Rattle.line.proofs.line.Line.status_wrong.Reads as reads
-use Rattle.line.proofs.line.Line.status_wrong.Lts as lts
 
--- src/refusal.rt:98:33
 enum-told : tie.Need-enum-told
 enum-told c = search needs
 
--- src/refusal.rt:99:28
 enum-told-2 : tie.Need-enum-told-2
 enum-told-2 c = search needs
 
--- src/refusal.rt:100:28
 enum-told-3 : tie.Need-enum-told-3
 enum-told-3 c = search needs
 
--- src/refusal.rt:101:33
 enum-told-4 : tie.Need-enum-told-4
 enum-told-4 c = search needs
 
--- src/refusal.rt:102:33
 enum-told-5 : tie.Need-enum-told-5
 enum-told-5 c = search needs
 
--- src/refusal.rt:103:30
 enum-told-6 : tie.Need-enum-told-6
 enum-told-6 c = search needs
 
--- src/refusal.rt:104:36
 enum-told-7 : tie.Need-enum-told-7
 enum-told-7 c = search needs
 
--- src/refusal.rt:105:32
 enum-told-8 : tie.Need-enum-told-8
 enum-told-8 c = search needs
 
--- src/refusal.rt:106:34
 enum-told-9 : tie.Need-enum-told-9
 enum-told-9 c = search needs
 
--- src/refusal.rt:107:35
 enum-told-10 : tie.Need-enum-told-10
 enum-told-10 c = search needs
 
--- src/refusal.rt:108:32
 enum-told-11 : tie.Need-enum-told-11
 enum-told-11 c = search needs
 
--- src/refusal.rt:109:35
 enum-told-12 : tie.Need-enum-told-12
 enum-told-12 c = search needs
 
--- src/refusal.rt:94:5
 returns : tie.Need-returns
 unfolding statusWrong
 returns c = simp (c .enum-told .given .1)
 
--- src/refusal.rt:94:5
 returns-2 : tie.Need-returns-2
 unfolding statusWrong
 returns-2 c = simp (c .before .before .enum-told2 .given .1)
 
--- src/refusal.rt:94:5
 returns-3 : tie.Need-returns-3
 unfolding statusWrong
 returns-3 c = simp (c .before .enum-told3 .given .1)
 
--- src/refusal.rt:94:5
 returns-4 : tie.Need-returns-4
 unfolding statusWrong
 returns-4 c = simp (c .enum-told4 .given .1)
 
--- src/refusal.rt:94:5
 returns-5 : tie.Need-returns-5
 unfolding statusWrong
 returns-5 c = simp (c .enum-told5 .given .1)
 
--- src/refusal.rt:94:5
 returns-6 : tie.Need-returns-6
 unfolding statusWrong
 returns-6 c = simp (c .enum-told6 .given .1)
 
--- src/refusal.rt:94:5
 returns-7 : tie.Need-returns-7
 unfolding statusWrong
 returns-7 c = simp (c .enum-told7 .given .1)
 
--- src/refusal.rt:94:5
 returns-8 : tie.Need-returns-8
 unfolding statusWrong
 returns-8 c = simp (c .enum-told8 .given .1)
 
--- src/refusal.rt:94:5
 returns-9 : tie.Need-returns-9
 unfolding statusWrong
 returns-9 c = simp (c .enum-told9 .given .1)
 
--- src/refusal.rt:94:5
 returns-10 : tie.Need-returns-10
 unfolding statusWrong
 returns-10 c = simp (c .enum-told10 .given .1)
 
--- src/refusal.rt:94:5
 returns-11 : tie.Need-returns-11
 unfolding statusWrong
 returns-11 c = simp (c .before .enum-told11 .given .1)
 
--- src/refusal.rt:94:5
 returns-12 : tie.Need-returns-12
 unfolding statusWrong
 returns-12 c = simp (c .before .enum-told12 .given .1)

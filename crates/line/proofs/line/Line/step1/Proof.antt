@@ -1,22 +1,16 @@
+-- `step1` equals its definition `step1`. Assumes nothing.
+use borrow.Author.Needs.{needs}
 use Rattle.weight.proofs.Signed.{back}
 use Rattle.line.specs.Sample.{step1}
-use borrow.Author.Needs.{needs}
 use Rattle.line.proofs.line.Line.step1.Statement.{statement}
 use Rattle.line.proofs.line.Line.step1.Tie as tie
-use Rattle.line.proofs.line.Line.step1.Reads as reads
-use Rattle.line.proofs.line.Line.step1.Lts as lts
-use Rattle.device.proofs.sensor.Sensor.settled.Reads as settled-reads
-use Rattle.line.proofs.line.Line.with_sensed.Reads as with-sensed-reads
 
--- src/sample.rt:38:13
 settled-requires : tie.Need-settled-requires
 settled-requires c κs = search needs
 
--- src/sample.rt:44:9
 with-sensed-requires : tie.Need-with-sensed-requires
 with-sensed-requires c κs = search needs
 
--- src/sample.rt:34:5
 returns : tie.Need-returns
 unfolding step1
 returns c =

@@ -1,28 +1,21 @@
+-- `step3` equals its definition `step3`. Assumes nothing.
+use borrow.Author.Needs.{needs}
+use borrow.Author.Tests.{eq-eqb, ne-eqb}
 use mathlib.Core.Path.{sym, _∙_}
 use Rattle.line.specs.Sample.{step3}
-use borrow.Author.Tests.{eq-eqb, ne-eqb}
-use borrow.Author.Needs.{needs}
 use Rattle.line.proofs.line.Line.step3.Statement.{statement}
 use Rattle.line.proofs.line.Line.step3.Tie as tie
-use Rattle.line.proofs.line.Line.step3.Reads as reads
-use Rattle.line.proofs.line.Line.step3.Lts as lts
-use Rattle.line.proofs.line.Line.with_status.Reads as with-status-reads
-use Rattle.mask.proofs.lowest_off.Reads as lowest-off-reads
 
--- src/sample.rt:64:12
 lowest-off-requires : tie.Need-lowest-off-requires
 lowest-off-requires c κs = search needs
 
--- src/sample.rt:65:13
 returns : tie.Need-returns
 unfolding step3
 returns c = simp (eq-eqb _ _ (sym (c .before .lowest-off .ensures) ∙ c .if1 .taken))
 
--- src/sample.rt:67:9
 with-status-requires : tie.Need-with-status-requires
 with-status-requires c κs = search needs
 
--- src/sample.rt:61:5
 returns-2 : tie.Need-returns-2
 unfolding step3
 returns-2 c = simp (c .with-status .ensures, ne-eqb _ _ (λ z. c .before .if1 .left (c .before .before .lowest-off .ensures ∙ z)))

@@ -1,44 +1,32 @@
-use Rattle.line.proofs.Items.{weighing, mean-weighs}
-use Rattle.event.proofs.Facts.{timers}
-use Rattle.weight.proofs.Signed.{back}
+-- `step6` equals its definition `step6`. Assumes nothing.
+use borrow.Author.Needs.{needs}
 use mathlib.Core.Path.{sym, _∙_}
 use mir.Facts.{toZ-ofZ}
+use Rattle.event.proofs.Facts.{timers}
+use Rattle.weight.proofs.Signed.{back}
+use Rattle.line.proofs.Items.{weighing, mean-weighs}
 use Rattle.line.specs.Sample.{step6, afterWeighing}
-use borrow.Author.Needs.{needs}
 use Rattle.line.proofs.line.Line.step6.Statement.{statement}
 use Rattle.line.proofs.line.Line.step6.Tie as tie
-use Rattle.line.proofs.line.Line.step6.Reads as reads
-use Rattle.line.proofs.line.Line.step6.Lts as lts
-use Rattle.line.proofs.effect.Effect.plain.Reads as plain-reads
-use Rattle.line.proofs.item.Item.weighed.Reads as weighed-reads
-use Rattle.line.proofs.line.Line.judged.Reads as judged-reads
-use Rattle.line.proofs.line.Line.with_item.Reads as with-item-reads
 
--- src/sample.rt:95:13
 weighed-requires : tie.Need-weighed-requires
 weighed-requires c κs = search needs
 
--- src/sample.rt:97:28
 enum-known-weighed : tie.Need-enum-known-weighed
 enum-known-weighed c = search needs
 
--- src/sample.rt:97:48
 with-item-requires : tie.Need-with-item-requires
 with-item-requires c κs = search needs
 
--- src/sample.rt:97:34
 plain-requires : tie.Need-plain-requires
 plain-requires c κs = search needs
 
--- src/sample.rt:98:27
 enum-known-weighed-2 : tie.Need-enum-known-weighed-2
 enum-known-weighed-2 c = search needs
 
--- src/sample.rt:98:33
 with-item-requires-2 : tie.Need-with-item-requires-2
 with-item-requires-2 c κs = search needs
 
--- src/sample.rt:98:33
 judged-requires : tie.Need-judged-requires
 judged-requires c κs =
     let s = c .before .before .before .before .before .before in
@@ -47,7 +35,6 @@ judged-requires c κs =
     let e = rw (toZ-ofZ (s .fits .gross)) at (sym (c .before .before .before .before .weighed .ensures) ∙ w .1) in
     (s .pre .2, rw (back m (c .before .known-told2 .given .0 .1)) (mean-weighs m (weighing (s .args .self .item) (s .args .self .setup) (s .args .gross) (timers (s .args .self .setup) (s .pre .0)) (s .pre .1) (s .pre .3)) e))
 
--- src/sample.rt:89:5
 returns : tie.Need-returns
 unfolding step6 afterWeighing
 returns c =
@@ -55,7 +42,6 @@ returns c =
     let e = rw (toZ-ofZ (s .fits .gross)) at (sym (c .before .before .before .before .before .weighed .ensures) ∙ c .before .before .before .weighed2 .given .1) in
     simp (c .plain .ensures, c .before .with-item .ensures, e)
 
--- src/sample.rt:89:5
 returns-2 : tie.Need-returns-2
 unfolding step6 afterWeighing
 returns-2 c =
