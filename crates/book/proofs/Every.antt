@@ -280,7 +280,7 @@ stands w h =
     let a = activeOf l (w .settings) in
     let ts = w .tallies in
     record {
-      tallies = λ code low. rw (h .book) (h .given .sheets .tallies code low);
+      tallies = λ code low. rw (h .book) (h .given .sheets .parts code low);
       balance = h .balance;
       item = h .item;
       tallied = λ e. rw (h .book) (answer-goes w e h .tallied);

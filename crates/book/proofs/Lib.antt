@@ -1,4 +1,3 @@
-pub mod Example
 pub mod Level
 pub mod Pages
 pub mod Sheets

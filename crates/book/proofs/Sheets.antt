@@ -2,7 +2,7 @@
 use mathlib.Core.Path.{_≡_, refl, sym, ap, subst, _∙_}
 use mathlib.Core.Bool.{Bool, true, false}
 use mathlib.Core.List.{List, [], _∷_}
-use Prim.Native.Nat.{ℕ, _≤_}
+use Prim.Native.Nat.{ℕ, _+_, _*_, _≤_}
 use native.Mathlib.Omega.{arith}
 use lib.Dec.{eqb, ltb}
 use lib.IntN.{ℤ}
@@ -12,9 +12,9 @@ use Rattle.weight.specs.Choice.{if_then_else_}
 use Rattle.weight.proofs.Tests.{if-ind, by-cases}
 use Rattle.event.specs.declared.Event.{Event}
 use Rattle.tally.specs.Tally.{tallyFit, hasRoom, added}
-use Rattle.tally.specs.Memory.{tallyAt, tallyAtFit, withTally, zeros, talliesLength}
+use Rattle.tally.specs.Memory.{numbers, part, tallyOf, tallyAt, tallyAtFit, withTally, zeros, talliesLength}
 use Rattle.tally.specs.declared.tally.Tally.{Tally}
-use Rattle.tally.proofs.Parts.{length-kept, tally-same, fit-same, tally-other, fit-other, tally-zeros, fit-zeros, length-zeros}
+use Rattle.tally.proofs.Parts.{length-kept, part-same, part-other, part-zeros, tally-of-numbers, fit-same, fit-other, fit-zeros, length-zeros}
 use Rattle.line.specs.Line.{busy, withUndo}
 use Rattle.line.specs.Fit.{undoFit, statusFit}
 use Rattle.line.specs.Effect.{replied}
@@ -53,9 +53,12 @@ pub record Page (p : List Verdict) : Type 0 where
 -- the tallies are those of the pages
 pub record Sheets (ts : List ℤ) (f : Pages) : Type 0 where
   pub len : length ts ≡ talliesLength
-  pub tallies : (k : ℕ) → k ≤ 99 → tallyAt ts k ≡ tallyOfPage (f k)
+  pub parts : (k : ℕ) → k ≤ 99 → part ts k ≡ numbers (tallyOfPage (f k))
   pub fit : (k : ℕ) → k ≤ 99 → tallyAtFit ts k ≡ true
   pub pages : (k : ℕ) → Page (f k)
+
+pub sheet-tally : (ts : List ℤ) (f : Pages) → Sheets ts f → (k : ℕ) → k ≤ 99 → tallyAt ts k ≡ tallyOfPage (f k)
+sheet-tally ts f s k h = ap tallyOf (s .parts k h) ∙ tally-of-numbers (tallyOfPage (f k))
 
 pub page-tally-fit : (p : List Verdict) → Page p → tallyFit (tallyOfPage p) ≡ true
 page-tally-fit p g = page-fit (g .fine) (g .few)
@@ -64,11 +67,12 @@ page-tally-fit p g = page-fit (g .fine) (g .few)
 pub put-sheet : (ts : List ℤ) (f : Pages) (c : ℕ) (p : List Verdict) (t : Tally) → Sheets ts f → c ≤ 99 → Page p → t ≡ tallyOfPage p → Sheets (withTally ts c t) (turned f c p)
 put-sheet ts f c p t s low g e =
     let ok : tallyFit t ≡ true = rw e (page-tally-fit p g) in
+    let room : c * 13 + 13 ≤ length ts = omega (arith, s .len) in
     record {
       len = length-kept ts c t (s .len) low;
-      tallies = λ k h. if-ind (λ (q : List Verdict). tallyAt (withTally ts c t) k ≡ tallyOfPage q) (eqb k c) p (f k)
-          (λ y. rw (eqb-true k c y) (tally-same ts c t (s .len) low ∙ e))
-          (λ n. tally-other ts c t (s .len) low k (eqb-false k c n) ∙ s .tallies k h);
+      parts = λ k h. if-ind (λ (q : List Verdict). part (withTally ts c t) k ≡ numbers (tallyOfPage q)) (eqb k c) p (f k)
+          (λ y. rw (eqb-true k c y) (part-same ts c t room ∙ ap numbers e))
+          (λ n. part-other ts c k t room (eqb-false k c n) ∙ s .parts k h);
       fit = λ k h. by-cases (eqb k c)
           (λ y. rw (eqb-true k c y) (fit-same ts c t (s .len) low ok))
           (λ n. fit-other ts c t (s .len) low k (eqb-false k c n) ∙ s .fit k h);
@@ -79,7 +83,7 @@ pub zero-sheets : Sheets (zeros talliesLength) (λ _. [])
 zero-sheets =
     record {
       len = length-zeros;
-      tallies = λ k h. tally-zeros k h ∙ sym page-none;
+      parts = λ k h. part-zeros k h ∙ ap numbers (sym page-none);
       fit = λ k h. fit-zeros k h;
       pages = λ k. record { fine = none; few = omega arith };
     }
@@ -182,7 +186,7 @@ verdict-goes l ts f e x w s v =
     let low : c ≤ 99 = leb-true c 99 (w .fit .code) in
     let p = f c in
     let t = tallyAt ts c in
-    let is : t ≡ tallyOfPage p = s .tallies c low in
+    let is : t ≡ tallyOfPage p = sheet-tally ts f s c low in
     let same : beside k f ≡ beside l f = sym (beside-same l k f (w .code) (w .undo)) in
     let room : hasRoom t ≡ ltb (length p) 999999 = ap hasRoom is ∙ page-room (s .pages c .fine) in
     if-ind (Goes l f e) (hasRoom t) _ _

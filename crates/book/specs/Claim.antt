@@ -6,7 +6,7 @@ use mathlib.Core.List.{List}
 use Rattle.weight.specs.Choice.{if_then_else_}
 use Rattle.event.specs.declared.Event.{Event}
 use Rattle.event.specs.declared.Event.the-variants.{Cancel}
-use Rattle.tally.specs.Memory.{tallyAt}
+use Rattle.tally.specs.Memory.{numbers, part}
 use Rattle.line.specs.Line.{inHand}
 use Rattle.line.specs.Effect.{bit}
 use Rattle.line.specs.declared.reply.Reply.{Reply}
@@ -27,8 +27,8 @@ talliedIn (Done d) = d .tallied
 
 -- what holds after a list of events, and of the reply to any next one
 pub record Stands (w : World) : Type 0 where
-  -- "each code's tally equals that of the verdicts standing under it in the book"
-  pub tallies : (code : ℕ) → code ≤ 99 → tallyAt (w .tallies) code ≡ tallyOfPage (bookOf (w .history) .pages code)
+  -- "each code's tally equals that of the verdicts standing under it in the book": the very numbers of its part
+  pub tallies : (code : ℕ) → code ≤ 99 → part (w .tallies) code ≡ numbers (tallyOfPage (bookOf (w .history) .pages code))
   -- "detected = judged + two-on + dismissed + abandoned + in hand"
   pub balance :
       detectedIn (w .history)

@@ -3,3 +3,4 @@ pub mod Page
 pub mod Run
 pub mod Boxes
 pub mod Claim
+pub mod Example
