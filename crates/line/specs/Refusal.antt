@@ -1,13 +1,15 @@
--- 01, "Refusal numbers of the manual's kind": the table, "checked in this order, first one wins".
+-- 01, "Refusal numbers of the manual's kind": when each condition of the table holds.
 use Prim.Native.Nat.{ℕ}
 use mathlib.Core.Bool.{Bool, true, false, _&&_, _||_, not}
-use mathlib.Core.List.{List, [], _∷_}
+use mathlib.Core.List.{List}
 use lib.Dec.{eqb}
 use lib.IntN.{ℤ}
 use lib.ListN.{length}
 use lib.Signed.{ltZ}
 use Rattle.weight.specs.Choice.{if_then_else_}
 use Rattle.mask.specs.Bits.{lowestOff}
+use Rattle.refusal.specs.Table.{table, firstHolding}
+use Rattle.refusal.specs.declared.Faults.{Faults}
 use Rattle.settings.specs.Settings.{recordFit, settingsLength}
 use Rattle.settings.specs.declared.Settings.{Settings}
 use Rattle.event.specs.Event.{eventRanged, eventAgrees}
@@ -116,28 +118,22 @@ nothingToCancel l NoOperation = false
 nothingToCancel l (Setup s) = false
 nothingToCancel l (Store c s) = false
 
--- a line of the table
-pub record Rule : Type 0 where
-  pub number : ℕ
-  pub holds : Bool
+-- which conditions of the table hold
+abbrev pub faultsOf : Line → ℕ → Settings → List ℤ → Event → Faults
+faultsOf l count a ts e =
+    record {
+      memory = not (memorySound l count a ts e);
+      value = not (eventRanged e);
+      status = statusWrong l e;
+      contradiction = not (eventAgrees e);
+      safety = runUnsafe l e;
+      occupied = runOccupied l a e;
+      nothing = nothingToCancel l e;
+    }
 
--- the number of the first rule that holds, 0 if none does
-abbrev pub firstHolding : List Rule → ℕ
-firstHolding [] = 0
-firstHolding (r ∷ rs) = if r .holds then r .number else firstHolding rs
-
--- the refusal of an event (1, form, is the text's), 0 if it is accepted
+-- the refusal of an event, 0 if it is accepted
 unfoldable pub refusalOf : Line → ℕ → Settings → List ℤ → Event → ℕ
-refusalOf l count a ts e =
-    firstHolding
-    (record { number = 8; holds = not (memorySound l count a ts e) }
-    ∷ record { number = 2; holds = not (eventRanged e) }
-    ∷ record { number = 3; holds = statusWrong l e }
-    ∷ record { number = 4; holds = not (eventAgrees e) }
-    ∷ record { number = 5; holds = runUnsafe l e }
-    ∷ record { number = 6; holds = runOccupied l a e }
-    ∷ record { number = 7; holds = nothingToCancel l e }
-    ∷ [])
+refusalOf l count a ts e = firstHolding (table (faultsOf l count a ts e))
 
 -- "input is the number of the lowest required input that is off (0 but for 5)"
 unfoldable pub inputOf : Line → ℕ → ℕ

@@ -2,10 +2,10 @@
 mod apply;
 mod command;
 mod effect;
+mod faults;
 mod fit;
 mod item;
 mod line;
-mod refusal;
 mod reply;
 mod sample;
 mod tallying;

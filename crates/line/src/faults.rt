@@ -1,4 +1,4 @@
-// The refusals, in the order of the table: the first condition that holds gives the number.
+// When each condition of the table of refusals holds.
 ghost use mathlib.Core.Path.{_≡_};
 ghost use mathlib.Core.Bool.{true};
 ghost use lib.ListN.{length};
@@ -8,6 +8,7 @@ ghost use Rattle.line.specs.Refusal.{readsRecord, readsTally, memorySoun
 use crate::line::Line;
 use crate::line::Undo;
 use event::Event;
+use refusal::Faults;
 use settings::Settings;
 use tally::Lent;
 
@@ -172,28 +173,16 @@ impl Line {
     pub(crate) fn refusal(self, count: u64, active: Settings, tallies: &[i64], e: Event) -> u64
         ensures { λ r. ⌜ r ≡ refusalOf self count active (now (tallies .entry)) e ⌝ }
     {
-        if !self.memory_sound(count, active, tallies, e) {
-            return 8;
-        }
-        if !e.ranged() {
-            return 2;
-        }
-        if self.status_wrong(e) {
-            return 3;
-        }
-        if !e.agrees() {
-            return 4;
-        }
-        if self.run_unsafe(e) {
-            return 5;
-        }
-        if self.run_occupied(active, e) {
-            return 6;
-        }
-        if self.nothing_to_cancel(e) {
-            return 7;
-        }
-        0
+        let faults = Faults {
+            memory: !self.memory_sound(count, active, tallies, e),
+            value: !e.ranged(),
+            status: self.status_wrong(e),
+            contradiction: !e.agrees(),
+            safety: self.run_unsafe(e),
+            occupied: self.run_occupied(active, e),
+            nothing: self.nothing_to_cancel(e),
+        };
+        faults.number()
     }
 
     // The lowest required input that is off, for refusal 5 alone.

@@ -2,8 +2,8 @@
 use borrow.Author.Needs.{needs}
 use mathlib.Core.Path.{sym, _∙_}
 use Rattle.line.proofs.Tallies.{lent-fit, lent-unfit}
-use Rattle.line.proofs.refusal.tally_fit.Statement.{statement}
-use Rattle.line.proofs.refusal.tally_fit.Tie as tie
+use Rattle.line.proofs.faults.tally_fit.Statement.{statement}
+use Rattle.line.proofs.faults.tally_fit.Tie as tie
 
 read-requires : tie.Need-read-requires
 read-requires c κs = search needs
