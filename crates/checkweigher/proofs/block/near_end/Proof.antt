@@ -1,21 +1,24 @@
--- `line_end` stays between its start and n. Assumes nothing.
+-- `near_end` stays between its start and the end of the block. Assumes nothing.
 use borrow.Author.Needs.{needs}
 use Prim.Native.Nat.{_-_, _≤_}
 use lib.ListN.{length}
-use Rattle.week.proofs.line_end.Statement.{statement}
-use Rattle.week.proofs.line_end.Tie as tie
+use Rattle.checkweigher.proofs.block.near_end.Statement.{statement}
+use Rattle.checkweigher.proofs.block.near_end.Tie as tie
 
 abbrev Inv-loop : tie.InvT-loop
-Inv-loop input start n i₀ i = (start ≤ i) × (i ≤ n) × (n ≤ length input)
+Inv-loop input start i₀ i = (start ≤ i) × (i ≤ length input)
 
 abbrev μ-loop : tie.MeasureT-loop
-μ-loop input start n i₀ i = n - i
+μ-loop input start i₀ i = length input - i
 
 loop-holds : tie.Need-loop-holds Inv-loop μ-loop
 loop-holds c = search needs
 
-shared-slice-read-if1 : tie.Need-shared-slice-read-if1 Inv-loop μ-loop
-shared-slice-read-if1 c = search needs
+sub-loop : tie.Need-sub-loop Inv-loop μ-loop
+sub-loop c = search needs
+
+lf-within-requires : tie.Need-lf-within-requires Inv-loop μ-loop
+lf-within-requires c κs = search needs
 
 returns : tie.Need-returns Inv-loop μ-loop
 returns c = search needs
@@ -32,14 +35,15 @@ loop-again c = search needs
 returns-2 : tie.Need-returns-2 Inv-loop μ-loop
 returns-2 c = search needs
 
-pub line-end-spec : {M : Type 1} → statement M
-line-end-spec =
+pub near-end-spec : {M : Type 1} → statement M
+near-end-spec =
     tie.close
     (tie.spec
     Inv-loop
     μ-loop
     loop-holds
-    shared-slice-read-if1
+    sub-loop
+    lf-within-requires
     returns
     add-i
     loop-less

@@ -1,0 +1,77 @@
+// Standard input by blocks, whatever their size: the lines that are complete are answered before more is waited for, and
+// what is left moves to the front.
+ghost use Prim.Native.Nat.{_<_, _≤_};
+ghost use mathlib.Core.Path.{_≡_};
+ghost use lib.ListN.{length};
+use crate::block::Block;
+use crate::block::serve_lines;
+use libc::STDIN_FILENO;
+use replay::Plant;
+
+// A line over 120 bytes is refused whatever follows: so much of it stands for all of it.
+const KEPT: usize = 121;
+
+fn kept(length: usize) -> usize
+    ensures { λ r. ⌜ (r ≤ length) × (r ≤ 121) ⌝ }
+{
+    if length < KEPT {
+        return length;
+    }
+    KEPT
+}
+
+// Moves what is left at `start` to the front, and answers how long it is.
+fn keep(input: &mut [u8], start: usize, end: usize) -> usize
+    requires { ⌜ (start ≤ end) × (end ≤ length (now input)) ⌝ }
+    ensures { λ r. ⌜ (r ≤ 121) × (length (now (input .exit)) ≡ length (now (input .entry))) ⌝ }
+{
+    let n = kept(end - start);
+    let mut i = 0;
+    while i < n {
+        input[i] = input[start + i];
+        i += 1;
+    }
+    i
+}
+
+fn read_behind(input: &mut [u8], held: usize) -> usize
+    requires { ⌜ held ≤ length (now input) ⌝ }
+    ensures { λ r. ⌜ (held ≤ r) × (r ≤ length (now (input .exit))) ⌝ }
+{
+    let rest = &mut input[held..];
+    let got = libc::read(STDIN_FILENO, rest);
+    let n = io::count(got, rest);
+    held + n
+}
+
+// The last line, where no LF ends it.
+fn serve_last(plant: Plant, tallies: &mut [i64], input: &mut [u8], held: usize, out: &mut [u8])
+    requires { ⌜ held < length (now input) ⌝ }
+{
+    if held == 0 {
+        return;
+    }
+    input[held] = b'\n';
+    serve_lines(plant, tallies, &input[0..held + 1], out);
+}
+
+// From a fresh line and memory to the end of the input.
+pub(crate) fn serve_input() {
+    let mut input = io::large_buffer();
+    let mut out = io::large_buffer();
+    let mut tallies = [0i64; 1300];
+    let mut plant = Plant::fresh();
+    let mut held = 0;
+    let mut reads = u64::MAX;
+    while reads > 0 {
+        let end = read_behind(&mut input, held);
+        if end == held {
+            serve_last(plant, &mut tallies, &mut input, held, &mut out);
+            return;
+        }
+        let block = serve_lines(plant, &mut tallies, &input[0..end], &mut out);
+        plant = block.plant;
+        held = keep(&mut input, block.start, end);
+        reads -= 1;
+    }
+}

@@ -1,0 +1,10 @@
+// The checkweigher: lines from standard input, each answered on standard output.
+mod block;
+mod input;
+mod output;
+
+use input::serve_input;
+
+fn main() {
+    serve_input();
+}
