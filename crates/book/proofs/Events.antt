@@ -17,7 +17,7 @@ use Rattle.event.specs.declared.Setup as setup
 use Rattle.event.proofs.Facts.{in-range}
 use Rattle.device.specs.Sorter.{sorting}
 use Rattle.tally.specs.Tally.{emptyTally}
-use Rattle.tally.specs.Memory.{withTally, zeros, talliesLength}
+use Rattle.tallies.specs.Memory.{withTally, zeros, talliesLength}
 use Rattle.line.specs.Line.{stopped, paused, emergency, noError, inHand, isRunning, busy, withStatus, withSetup, withUndo}
 use Rattle.line.specs.Fit.{errorKnown, statusFit, itemFit}
 use Rattle.line.specs.Effect.{plain, halting, replied}

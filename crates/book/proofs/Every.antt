@@ -20,13 +20,14 @@ use Rattle.event.specs.Event.{eventRanged, eventAgrees}
 use Rattle.event.specs.declared.Event.{Event}
 use Rattle.event.specs.declared.Event.the-variants.{Sample, Run, Stop, Emergency, Recall, Cancel, ClearCode, ClearAll, ErrorReset, NoOperation, Setup, Store}
 use Rattle.tally.specs.Tally.{hasRoom}
-use Rattle.tally.specs.Memory.{tallyAt, withTally}
+use Rattle.tallies.specs.Memory.{tallyAt, withTally}
 use Rattle.line.specs.Line.{freshLine, inHand, busy, withUndo}
 use Rattle.line.specs.Fit.{lastFit, sensorFit, errorKnown, statusFit, itemFit, undoFit}
 use Rattle.line.specs.Effect.{bit, plain, replied}
 use Rattle.line.specs.Refusal.{readsRecord, readsTally, memorySound, statusWrong, runUnsafe, runOccupied, nothingToCancel, noChance, refusalOf}
 use Rattle.line.specs.Tallying.{Out, isVerdict, untallied, tallied, passedOver, noted, recorded, cancelled}
 use Rattle.line.specs.Sample.{sampled}
+use Rattle.line.proofs.Done.{isDone, accepted-done}
 use Rattle.line.specs.Step.{accepted, refused, stepOf, stored, activeOf, settingsAfter}
 use Rattle.line.specs.declared.line.Undo.{Undo}
 use Rattle.line.specs.declared.line.Undo.the-variants.{Nothing, Kept}
@@ -213,48 +214,9 @@ not-eight l count a ts e h =
     Other : ℕ → Type 0
     Other n = n ≢ 8
 
--- an accepted event's reply is no refusal
-abbrev pub isDone : Reply → Bool
-isDone (Refused number input) = false
-isDone (Done d) = true
-
-abbrev NoRefusal : Out → Type 0
-NoRefusal o = isDone (o .reply) ≡ true
-
 no-refusal : (r : Reply) → isDone r ≡ true → refusalIn r ≡ 0
 no-refusal (Refused number input) h = absurd (subst T (sym h) tt)
 no-refusal (Done d) h = refl
-
-untallied-done : (x : Effect) (ts : List ℤ) → NoRefusal (untallied x ts)
-unfolding replied
-untallied-done x ts = refl
-
-recorded-done : (x : Effect) (ts : List ℤ) → NoRefusal (recorded x ts)
-unfolding recorded noted replied
-recorded-done x ts =
-    if-ind NoRefusal (isVerdict (x .outcome)) _ _
-    (λ _. if-ind NoRefusal (hasRoom (tallyAt ts (x .line .code))) (tallied x ts (tallyAt ts (x .line .code))) (passedOver x ts) (λ _. refl) (λ _. refl))
-    (λ _. refl)
-
-cancelled-done : (l : Line) (ts : List ℤ) (u : Undo) → NoRefusal (cancelled l ts u)
-unfolding cancelled
-cancelled-done l ts Nothing = untallied-done (plain l) ts
-cancelled-done l ts (Kept t) = untallied-done (plain (withUndo l Nothing)) (withTally ts (l .code) t)
-
-pub accepted-done : (l : Line) (a : Settings) (ts : List ℤ) (e : Event) → isDone (accepted l a ts e .reply) ≡ true
-unfolding accepted replied
-accepted-done l a ts (Sample s) = recorded-done (sampled l a s) ts
-accepted-done l a ts Run = refl
-accepted-done l a ts Stop = refl
-accepted-done l a ts Emergency = refl
-accepted-done l a ts (Recall c) = refl
-accepted-done l a ts Cancel = cancelled-done l ts (l .undo)
-accepted-done l a ts (ClearCode c) = refl
-accepted-done l a ts ClearAll = refl
-accepted-done l a ts ErrorReset = refl
-accepted-done l a ts NoOperation = refl
-accepted-done l a ts (Setup s) = refl
-accepted-done l a ts (Store c s) = refl
 
 -- the reply of an event has the refusal's number
 refusal-shown : (l : Line) (count : ℕ) (a : Settings) (ts : List ℤ) (e : Event) → refusalIn (stepOf l count a ts e .reply) ≡ refusalOf l count a ts e

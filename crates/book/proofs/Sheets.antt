@@ -12,9 +12,9 @@ use Rattle.weight.specs.Choice.{if_then_else_}
 use Rattle.weight.proofs.Tests.{if-ind, by-cases}
 use Rattle.event.specs.declared.Event.{Event}
 use Rattle.tally.specs.Tally.{tallyFit, hasRoom, added}
-use Rattle.tally.specs.Memory.{numbers, part, tallyOf, tallyAt, tallyAtFit, withTally, zeros, talliesLength}
+use Rattle.tallies.specs.Memory.{numbers, part, tallyOf, tallyAt, tallyAtFit, withTally, zeros, talliesLength}
 use Rattle.tally.specs.declared.tally.Tally.{Tally}
-use Rattle.tally.proofs.Parts.{length-kept, part-same, part-other, part-zeros, tally-of-numbers, fit-same, fit-other, fit-zeros, length-zeros}
+use Rattle.tallies.proofs.Parts.{length-kept, part-same, part-other, part-zeros, tally-of-numbers, fit-same, fit-other, fit-zeros, length-zeros}
 use Rattle.line.specs.Line.{busy, withUndo}
 use Rattle.line.specs.Fit.{undoFit, statusFit}
 use Rattle.line.specs.Effect.{replied}

@@ -6,7 +6,7 @@ use mathlib.Core.List.{List}
 use Rattle.weight.specs.Choice.{if_then_else_}
 use Rattle.event.specs.declared.Event.{Event}
 use Rattle.event.specs.declared.Event.the-variants.{Cancel}
-use Rattle.tally.specs.Memory.{numbers, part}
+use Rattle.tallies.specs.Memory.{numbers, part}
 use Rattle.line.specs.Line.{inHand}
 use Rattle.line.specs.Effect.{bit}
 use Rattle.line.specs.declared.reply.Reply.{Reply}

@@ -5,7 +5,7 @@ use lib.ListN.{replicate}
 use Rattle.settings.specs.Settings.{blank, settingsLength}
 use Rattle.settings.specs.declared.Settings.{Settings}
 use Rattle.event.specs.declared.Event.{Event}
-use Rattle.tally.specs.Memory.{zeros, talliesLength}
+use Rattle.tallies.specs.Memory.{zeros, talliesLength}
 use Rattle.line.specs.Line.{freshLine}
 use Rattle.line.specs.Tallying.{Out}
 use Rattle.line.specs.Step.{stepOn, settingsAfter}

@@ -10,10 +10,10 @@ use Rattle.settings.specs.Settings.{settingsLength}
 use Rattle.settings.specs.declared.Settings.{Settings}
 use Rattle.event.specs.declared.Event.{Event}
 use Rattle.event.specs.declared.Event.the-variants.{Sample, Run, Stop, Emergency, Recall, Cancel, ClearCode, ClearAll, ErrorReset, NoOperation, Setup, Store}
-use Rattle.tally.specs.Memory.{talliesLength}
+use Rattle.tallies.specs.Memory.{talliesLength}
 use Rattle.sheet.specs.Report.{reportOf}
-use Rattle.sheet.specs.declared.report.Report.{Report}
-use Rattle.sheet.specs.declared.report.Report.the-variants as report
+use Rattle.sheet.specs.declared.answer.Report.{Report}
+use Rattle.sheet.specs.declared.answer.Report.the-variants as report
 use Rattle.line.specs.Step.{stepOf}
 use Rattle.line.specs.declared.line.Line.{Line}
 use Rattle.line.specs.declared.reply.Reply.{Reply}

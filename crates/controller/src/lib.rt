@@ -49,7 +49,7 @@ fn reported(out: &mut [u8], count: u64, own: Settings, tallies: &[i64], code: u6
     ensures len { λ n. ⌜ n ≡ lengthWritten (reportAnswer code (reportOf count own (now (tallies .entry)) code) .room) (reportAnswer code (reportOf count own (now (tallies .entry)) code) .text) (now (out .entry)) ⌝ }
     ensures output { λ n. ⌜ now (out .exit) ≡ written (reportAnswer code (reportOf count own (now (tallies .entry)) code) .room) (reportAnswer code (reportOf count own (now (tallies .entry)) code) .text) (now (out .entry)) ⌝ }
 {
-    let r = sheet::report_of(count, own, tallies, code);
+    let r = sheet::report_on(count, own, tallies, code);
     match r {
         Report::Refused(number) => {
             let reply = Reply::Refused {
@@ -114,7 +114,7 @@ pub fn serve(
             len: len,
         };
     };
-    let step = line.apply(count, active, tallies, e);
+    let step = line.step(count, active, tallies, e);
     let reply = step.reply;
     let len = print::reply_line(out, reply);
     let next = step.line;

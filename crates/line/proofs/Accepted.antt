@@ -17,7 +17,7 @@ use Rattle.event.specs.Event.{isCode, eventRanged, eventAgrees}
 use Rattle.event.specs.declared.Sample as sample
 use Rattle.event.specs.declared.Event.the-variants.{Sample, Cancel, ClearCode, ClearAll}
 use Rattle.event.specs.declared.Event.{Event}
-use Rattle.tally.specs.Memory.{tallyAtFit, talliesLength}
+use Rattle.tallies.specs.Memory.{tallyAtFit, talliesLength}
 use Rattle.line.specs.Fit.{lineFit, undoFit}
 use Rattle.line.specs.Refusal.{readsRecord, readsTally, memorySound, statusWrong, runUnsafe, runOccupied, nothingToCancel, refusalOf}
 use Rattle.line.specs.declared.line.Line.{Line}

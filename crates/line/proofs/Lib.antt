@@ -6,3 +6,5 @@ pub mod Moves
 pub mod Keeps
 pub mod Ticks
 pub mod Tallies
+pub mod Done
+pub mod Stores

@@ -12,10 +12,10 @@ use Rattle.weight.specs.Weight.{isWeight}
 use Rattle.weight.proofs.Tests.{by-cases}
 use Rattle.event.specs.Event.{isCode}
 use Rattle.tally.specs.Tally.{tallyFit, hasRoom, added, notedOf}
-use Rattle.tally.specs.Memory.{talliesLength, tallyAt, tallyAtFit, lentAt, withTally, written}
+use Rattle.tallies.specs.Memory.{talliesLength, tallyAt, tallyAtFit, lentAt, withTally, written}
 use Rattle.tally.specs.declared.tally.Tally.{Tally}
 use Rattle.tally.specs.declared.tally.Noted.the-variants.{Tallied, Untallied}
-use Rattle.tally.specs.declared.memory.Lent.the-variants.{Fit, Unfit}
+use Rattle.tallies.specs.declared.Lent.the-variants.{Fit, Unfit}
 
 clash : {A : Type 0} → _≡_ {A = ℕ} 0 1 → A
 clash z = absurd (omega arith)

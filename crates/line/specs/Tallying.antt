@@ -6,7 +6,7 @@ use lib.Dec.{eqb}
 use lib.IntN.{ℤ}
 use Rattle.weight.specs.Choice.{if_then_else_, within}
 use Rattle.tally.specs.Tally.{emptyTally, hasRoom, added}
-use Rattle.tally.specs.Memory.{tallyAt, withTally, zeros, talliesLength}
+use Rattle.tallies.specs.Memory.{tallyAt, withTally, zeros, talliesLength}
 use Rattle.tally.specs.declared.tally.Tally.{Tally}
 use Rattle.line.specs.Line.{withCode, withUndo}
 use Rattle.line.specs.Effect.{plain, replied}

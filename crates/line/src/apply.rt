@@ -6,7 +6,7 @@ ghost use lib.ListN.{length};
 ghost use Rattle.settings.specs.Settings.{recordFit};
 ghost use Rattle.event.specs.Sample.{sampleRanged};
 ghost use Rattle.event.specs.Event.{isCode};
-ghost use Rattle.tally.specs.Memory.{talliesLength, tallyAtFit};
+ghost use Rattle.tallies.specs.Memory.{talliesLength, tallyAtFit};
 ghost use Rattle.line.specs.Line.{noError, withStatus, withSetup};
 ghost use Rattle.line.specs.Fit.{lineFit, undoFit};
 ghost use Rattle.line.specs.Effect.{plain};
@@ -14,12 +14,13 @@ ghost use Rattle.line.specs.Sample.{sampled};
 ghost use Rattle.line.specs.Command.{ran, stopping, alarmed};
 ghost use Rattle.line.specs.Tallying.{stepIn, untallied, recorded, cancelled, recalled, codeCleared, clearedOne, clearedAll};
 ghost use Rattle.line.specs.Refusal.{refusalOf};
-ghost use Rattle.line.specs.Step.{accepted, stepOf};
+ghost use Rattle.line.specs.Step.{accepted, stepOf, stepOn, settingsAfter};
 use crate::effect::Effect;
 use crate::line::Line;
 use crate::line::Undo;
 use crate::reply::Reply;
 use crate::reply::Step;
+use crate::storing::storing_for;
 use event::Event;
 use event::Sample;
 use event::Setup;
@@ -70,7 +71,7 @@ impl Line {
         Effect::plain(self.with_setup(setup)).untallied()
     }
 
-    // The record is stored by whoever lends the settings.
+    // `apply` stores the record.
     fn store(self) -> Step
         ensures { λ r. ⌜ r ≡ stepIn (untallied (plain self) []) ⌝ }
     {
@@ -97,7 +98,7 @@ impl Line {
         let Undo::Kept(t) = undo else {
             return self.no_operation();
         };
-        tally::write(tallies, self.code, t);
+        tallies::write(tallies, self.code, t);
         Effect::plain(self.with_undo(Undo::Nothing)).untallied()
     }
 
@@ -116,7 +117,7 @@ impl Line {
         ensures answer { λ r. ⌜ r ≡ stepIn (clearedOne self (now (tallies .entry)) code) ⌝ }
         ensures memory { λ r. ⌜ now (tallies .exit) ≡ clearedOne self (now (tallies .entry)) code .tallies ⌝ }
     {
-        tally::write(tallies, code, Tally::empty());
+        tallies::write(tallies, code, Tally::empty());
         Effect::plain(self.code_cleared(code)).untallied()
     }
 
@@ -125,7 +126,7 @@ impl Line {
         ensures answer { λ r. ⌜ r ≡ stepIn (clearedAll self) ⌝ }
         ensures memory { λ r. ⌜ now (tallies .exit) ≡ clearedAll self .tallies ⌝ }
     {
-        tally::clear(tallies);
+        tallies::clear(tallies);
         Effect::plain(self.with_undo(Undo::Nothing)).untallied()
     }
 }
@@ -152,9 +153,9 @@ impl Line {
         }
     }
 
-    // An event on the line and its tallies, where `count` settings records are lent and `active` is the active code's.
-    // Refused, it changes nothing; accepted, it gives the next line, and a verdict, a cancel or a clear changes tallies.
-    pub fn apply(self, count: u64, active: Settings, tallies: &mut [i64], e: Event) -> Step
+    // The flat core: an event on the line and its tallies, where `count` settings records are lent and `active` is the active
+    // code's. Refused, it changes nothing; accepted, it gives the next line, and a verdict, a cancel or a clear changes tallies.
+    pub fn step(self, count: u64, active: Settings, tallies: &mut [i64], e: Event) -> Step
         ensures answer { λ r. ⌜ r ≡ stepIn (stepOf self count active (now (tallies .entry)) e) ⌝ }
         ensures memory { λ r. ⌜ now (tallies .exit) ≡ stepOf self count active (now (tallies .entry)) e .tallies ⌝ }
     {
@@ -170,5 +171,20 @@ impl Line {
             };
         }
         self.accepted(count, active, tallies, e)
+    }
+
+    // An event on the line and both lent memories, the settings records and the tallies. Of the records an event reads
+    // the active code's, and a store replaces one.
+    pub fn apply(self, records: &mut [Settings], tallies: &mut [i64], e: Event) -> Step
+        ensures answer { λ r. ⌜ r ≡ stepIn (stepOn self (now (records .entry)) (now (tallies .entry)) e) ⌝ }
+        ensures settings { λ r. ⌜ now (records .exit) ≡ settingsAfter self (now (records .entry)) (now (tallies .entry)) e ⌝ }
+        ensures memory { λ r. ⌜ now (tallies .exit) ≡ stepOn self (now (records .entry)) (now (tallies .entry)) e .tallies ⌝ }
+    {
+        let count = records.len() as u64;
+        let active = records::read(records, self.code);
+        let step = self.step(count, active, tallies, e);
+        let storing = storing_for(step, count, active, e);
+        records::write(records, storing.code, storing.settings);
+        step
     }
 }

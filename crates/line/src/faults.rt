@@ -3,14 +3,14 @@ ghost use mathlib.Core.Path.{_≡_};
 ghost use mathlib.Core.Bool.{true};
 ghost use lib.ListN.{length};
 ghost use Rattle.event.specs.Event.{isCode};
-ghost use Rattle.tally.specs.Memory.{talliesLength, tallyAtFit};
+ghost use Rattle.tallies.specs.Memory.{talliesLength, tallyAtFit};
 ghost use Rattle.line.specs.Refusal.{readsRecord, readsTally, memorySound, statusWrong, inputOff, isRun, runUnsafe, runOccupied, noChance, nothingToCancel, refusalOf, inputOf};
 use crate::line::Line;
 use crate::line::Undo;
 use event::Event;
 use refusal::Faults;
 use settings::Settings;
-use tally::Lent;
+use tallies::Lent;
 
 fn reads_record(e: Event) -> bool
     ensures { λ r. ⌜ r ≡ readsRecord e ⌝ }
@@ -74,7 +74,7 @@ fn tally_fit(tallies: &[i64], code: u64) -> bool
     requires { ⌜ (isCode code ≡ true) × (length (now tallies) ≡ talliesLength) ⌝ }
     ensures { λ r. ⌜ r ≡ tallyAtFit (now (tallies .entry)) code ⌝ }
 {
-    let lent = tally::read(tallies, code);
+    let lent = tallies::read(tallies, code);
     match lent {
         Lent::Fit(_) => true,
         Lent::Unfit => false,

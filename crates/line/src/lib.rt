@@ -8,6 +8,7 @@ mod item;
 mod line;
 mod reply;
 mod sample;
+mod storing;
 mod tallying;
 mod verdict;
 

@@ -7,14 +7,14 @@ ghost use Rattle.weight.specs.Choice.{within};
 ghost use Rattle.weight.specs.Weight.{isWeight};
 ghost use Rattle.event.specs.Event.{isCode};
 ghost use Rattle.tally.specs.Tally.{tallyFit};
-ghost use Rattle.tally.specs.Memory.{talliesLength, tallyAt, tallyAtFit};
+ghost use Rattle.tallies.specs.Memory.{talliesLength, tallyAt, tallyAtFit};
 ghost use Rattle.line.specs.Fit.{undoFit};
 ghost use Rattle.line.specs.Tallying.{stepIn, untallied, noted, recorded, cancelled, codeCleared, clearedOne, clearedAll};
 use crate::effect::Effect;
 use crate::line::Line;
 use crate::line::Undo;
 use crate::reply::Step;
-use tally::Lent;
+use tallies::Lent;
 use tally::Noted;
 use tally::Tally;
 
@@ -41,7 +41,7 @@ impl Effect {
         let noted = t.noted(self.outcome, self.net);
         match noted {
             Noted::Tallied(next) => {
-                tally::write(&mut *tallies, line.code, next);
+                tallies::write(&mut *tallies, line.code, next);
                 let kept = line.with_undo(Undo::Kept(t));
                 let reply = self.replied(1);
                 Step {
@@ -68,7 +68,7 @@ impl Effect {
     {
         if (1 <= self.outcome) & (self.outcome <= 8) {
             let line = self.line;
-            let lent = tally::read(&*tallies, line.code);
+            let lent = tallies::read(&*tallies, line.code);
             let Lent::Fit(t) = lent else {
                 return self.untallied();
             };

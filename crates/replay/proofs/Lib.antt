@@ -1,3 +1,1 @@
-pub mod Past
-pub mod Shown
 pub mod Fold

@@ -7,23 +7,22 @@ use Rattle.settings.specs.Settings.{blank, settingsLength}
 use Rattle.settings.specs.declared.Settings.{Settings}
 use Rattle.event.specs.declared.Event.{Event}
 use Rattle.line.specs.Line.{freshLine}
-use Rattle.line.specs.Step.{stored, stepOn, settingsAfter}
+use Rattle.line.specs.Tallying.{stepIn}
+use Rattle.line.specs.Step.{stepOn, settingsAfter}
 use Rattle.line.specs.declared.line.Line.{Line}
-use Rattle.line.specs.declared.reply.Reply.{Reply}
-use Rattle.line.specs.declared.reply.Reply.the-variants.{Refused, Done}
-use Rattle.tally.specs.Memory.{zeros}
+use Rattle.tallies.specs.Memory.{zeros}
 use Rattle.book.specs.Run.{World, runFrom}
 use Rattle.replay.specs.declared.Plant.{Plant}
+use Rattle.replay.specs.declared.Stepped.{Stepped}
 use Rattle.replay.specs.declared.Turned.{Turned}
 
 -- "from a fresh line and memory"
 abbrev pub freshPlant : Plant
 freshPlant = record { line = freshLine; settings = replicate settingsLength blank }
 
--- an accepted store replaces a record
-abbrev pub storedFor : List Settings → Event → Reply → List Settings
-storedFor ss e (Refused number input) = ss
-storedFor ss e (Done d) = stored ss e
+-- a step of the line, and its records after it
+abbrev pub steppedBy : Line → List Settings → List ℤ → Event → Stepped
+steppedBy l ss ts e = record { step = stepIn (stepOn l ss ts e); settings = settingsAfter l ss ts e }
 
 -- one event on a line, its settings and the lent tallies
 abbrev pub turnedBy : Line → List Settings → List ℤ → Event → Turned

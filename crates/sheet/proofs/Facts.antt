@@ -17,9 +17,9 @@ use Rattle.settings.specs.Settings.{recordRanged, limitsOrdered, recordFit}
 use Rattle.settings.specs.declared.Settings.{Settings}
 use Rattle.spread.specs.Figures.{fitOf}
 use Rattle.tally.specs.Tally.{tallyFit}
-use Rattle.tally.specs.Memory.{lies, lentAt, tallyAt, tallyAtFit}
+use Rattle.tallies.specs.Memory.{lies, lentAt, tallyAt, tallyAtFit}
 use Rattle.tally.specs.declared.tally.Tally.{Tally}
-use Rattle.tally.specs.declared.memory.Lent.the-variants.{Fit, Unfit}
+use Rattle.tallies.specs.declared.Lent.the-variants.{Fit, Unfit}
 use Rattle.tally.proofs.Facts.{FitTally, fit-tells}
 use Rattle.sheet.specs.Sheet.{reportFit}
 use Rattle.sheet.specs.Steps.{weightOrNone, lessTarget}

@@ -1,10 +1,12 @@
 // A code's sheet: the figures of its tally, and the report that asks for them.
+mod answer;
 mod laws;
-mod report;
+mod memory;
 mod sheet;
 
+pub use answer::Report;
+pub use answer::report_on;
 pub use laws::always_apart;
 pub use laws::bench;
-pub use report::Report;
-pub use report::report_of;
+pub use memory::report;
 pub use sheet::Sheet;

@@ -7,10 +7,7 @@ use lib.Dec.{leb, eqb}
 use lib.IntN.{ℤ, natAbs}
 use Rattle.weight.specs.Choice.{if_then_else_}
 use Rattle.tally.specs.declared.tally.Tally.{Tally}
-use Rattle.tally.specs.declared.memory.Lent.{Lent}
-use Rattle.tally.specs.declared.memory.Lent.the-variants.{Fit, Unfit}
 use Rattle.tally.specs.Tally.{tallyFit}
-use Rattle.tally.specs.Memory.{tallyOf, unsigned}
 
 -- each count and n is small, as the code tests it
 abbrev pub smallCounts : Tally → Bool
@@ -39,7 +36,3 @@ pub record Bounded (t : Tally) : Type 0 where
 -- "0 at n = 0"
 abbrev pub noneIsZero : Tally → Bool
 noneIsZero t = if eqb (t .n) 0 then eqb (natAbs (t .largest)) 0 && eqb (natAbs (t .smallest)) 0 else true
-
--- what a part holds
-abbrev pub lentOf : List ℤ → Lent
-lentOf p = if unsigned p && tallyFit (tallyOf p) then Fit (tallyOf p) else Unfit

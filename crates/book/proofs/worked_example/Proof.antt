@@ -11,7 +11,7 @@ use Rattle.line.specs.Tallying.{noted, recorded, cancelled, codeCleared}
 use Rattle.line.specs.Refusal.{memorySound, statusWrong, runUnsafe, runOccupied, nothingToCancel, refusalOf, inputOf}
 use Rattle.line.specs.Step.{accepted, stepOf}
 use Rattle.tally.specs.Tally.{tallyFit, hasRoom, largestWith, smallestWith, countedWith, weighedWith, added}
-use Rattle.tally.specs.Memory.{part, tallyOf, unsigned, tallyAtFit, withTally, zeros}
+use Rattle.tallies.specs.Memory.{part, tallyOf, unsigned, tallyAtFit, withTally, zeros}
 use Rattle.device.specs.Sensor.{settled}
 use Rattle.device.specs.Sorter.{waiting, full, sorting, anyEnds, sorterTicked, placed, queued, sorterOff, waitsFit, sorterFit}
 use Rattle.device.specs.Foreign.{delayFallen, signalled, foreignTicked, flagUsed}

@@ -4,8 +4,8 @@ use mathlib.Core.Path.{sym, _∙_}
 use Rattle.controller.proofs.reported.Statement.{statement}
 use Rattle.controller.proofs.reported.Tie as tie
 
-report-of-requires : tie.Need-report-of-requires
-report-of-requires c κs = search needs
+report-on-requires : tie.Need-report-on-requires
+report-on-requires c κs = search needs
 
 enum-known-r : tie.Need-enum-known-r
 enum-known-r c = search needs
@@ -23,19 +23,19 @@ same-length : tie.Need-same-length
 same-length c = search needs
 
 returns : tie.Need-returns
-returns c = rw (sym (c .before .before .before .before .before .before .before .report-of .ensures) ∙ c .before .before .before .before .before .r .given .1) (c .before .before .reply-line .ensures)
+returns c = rw (sym (c .before .before .before .before .before .before .before .report-on .ensures) ∙ c .before .before .before .before .before .r .given .1) (c .before .before .reply-line .ensures)
 
 same-length-2 : tie.Need-same-length-2
 same-length-2 c = search needs
 
 returns-2 : tie.Need-returns-2
-returns-2 c = rw (sym (c .before .before .before .before .before .before .before .report-of .ensures) ∙ c .before .before .before .before .before .r2 .given .1) (c .before .before .sheet-lines .ensures)
+returns-2 c = rw (sym (c .before .before .before .before .before .before .before .report-on .ensures) ∙ c .before .before .before .before .before .r2 .given .1) (c .before .before .sheet-lines .ensures)
 
 pub reported-spec : {M : Type 1} → statement M
 reported-spec =
     tie.close
     (tie.spec
-    report-of-requires
+    report-on-requires
     enum-known-r
     reply-line-requires
     enum-known-r-2

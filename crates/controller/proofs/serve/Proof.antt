@@ -24,8 +24,8 @@ returns c =
     let k = no-event (a .line) (a .count) (a .active) (a .own) (a .tallies .now) (a .said) (c .before .before .before .before .before .match .keys2) in
     (rw (k .line, k .storing, k .answer, c .before .before .answered .ensures .0) refl, (sym (k .tallies), rw (k .answer) (c .before .before .answered .ensures .1)))
 
-apply-requires : tie.Need-apply-requires
-apply-requires c κs = search needs
+step-requires : tie.Need-step-requires
+step-requires c κs = search needs
 
 reply-line-requires : tie.Need-reply-line-requires
 reply-line-requires c κs = search needs
@@ -42,7 +42,7 @@ same-length-4 c = search needs
 returns-2 : tie.Need-returns-2
 unfolding answerTo lineAfter talliesAfter storingAfter
 returns-2 c =
-    let step = c .before .before .before .before .before .before .before .apply .ensures in
+    let step = c .before .before .before .before .before .before .before .step .ensures in
     let written = c .before .before .before .before .reply-line .ensures in
     rw (c .before .before .before .before .before .before .before .before .before .before .said .given .1)
     (rw (c .storing-for .ensures, written .0, step .0) refl, (step .1, rw (step .0) at (written .1)))
@@ -56,7 +56,7 @@ serve-spec =
     same-length
     same-length-2
     returns
-    apply-requires
+    step-requires
     reply-line-requires
     storing-for-requires
     same-length-3

@@ -10,7 +10,7 @@ use Rattle.book.proofs.Every.{claim}
 use Rattle.book.specs.Run.{runFrom, run}
 use Rattle.event.specs.declared.Event.the-variants.{Sample}
 use Rattle.event.specs.declared.Event.{Event}
-use Rattle.tally.specs.Memory.{zeros}
+use Rattle.tallies.specs.Memory.{zeros}
 use Rattle.replay.proofs.Fold.{After, turned-after}
 use Rattle.replay.proofs.replay.Statement.{statement}
 use Rattle.replay.proofs.replay.Tie as tie

@@ -7,7 +7,7 @@ use lib.Signed.{mag}
 use mir.Val.{toZ, ofZ}
 use mir.Syntax.{w64}
 use Rattle.tally.proofs.Added.{added-fit}
-use Rattle.tally.specs.Memory.{withTally}
+use Rattle.tallies.specs.Memory.{withTally}
 use Rattle.tally.specs.Tally.{tallyFit, hasRoom, added, notedOf}
 use Rattle.tally.specs.declared.tally.Noted.the-variants.{Tallied, Untallied}
 use Rattle.tally.specs.declared.tally.Tally.{Tally}

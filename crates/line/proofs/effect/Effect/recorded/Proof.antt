@@ -3,7 +3,7 @@ use borrow.Author.Needs.{needs}
 use mathlib.Core.Path.{_≡_, refl, sym, _∙_}
 use Prim.Native.Nat.{ℕ}
 use native.Mathlib.Omega.{arith}
-use Rattle.tally.specs.Memory.{part, unsigned, tallyAt, tallyAtFit}
+use Rattle.tallies.specs.Memory.{part, unsigned, tallyAt, tallyAtFit}
 use Rattle.tally.specs.Tally.{tallyFit}
 use Rattle.weight.proofs.Tests.{both}
 use Rattle.line.proofs.Tallies.{lent-fit, lent-unfit}

@@ -4,7 +4,7 @@ use mathlib.Core.List.{List}
 use mathlib.Core.Bool.{true}
 use mathlib.Core.Path.{_≡_, _∙_, sym, ap}
 use lib.IntN.{ℤ}
-use Rattle.tally.specs.Memory.{withTally}
+use Rattle.tallies.specs.Memory.{withTally}
 use Rattle.tally.specs.Tally.{tallyFit}
 use Rattle.tally.specs.declared.tally.Tally.{Tally}
 use Rattle.line.proofs.Tallies.{written-is}

@@ -6,7 +6,7 @@ use mathlib.Core.Path.{_≡_, sym, _∙_}
 use lib.ListN.{length}
 use lib.Dec.{eqb}
 use Rattle.settings.specs.Settings.{recordFit}
-use Rattle.tally.specs.Memory.{talliesLength}
+use Rattle.tallies.specs.Memory.{talliesLength}
 use Rattle.weight.proofs.Tests.{both}
 use Rattle.line.proofs.Facts.{fit-tells}
 use Rattle.line.specs.Fit.{lineFit}

@@ -1,0 +1,60 @@
+-- An accepted event's reply is no refusal. Assumes nothing.
+use mathlib.Core.Path.{_≡_, refl}
+use mathlib.Core.Bool.{Bool, true, false}
+use mathlib.Core.List.{List}
+use lib.IntN.{ℤ}
+use Rattle.weight.proofs.Tests.{if-ind}
+use Rattle.settings.specs.declared.Settings.{Settings}
+use Rattle.event.specs.declared.Event.{Event}
+use Rattle.event.specs.declared.Event.the-variants.{Sample, Run, Stop, Emergency, Recall, Cancel, ClearCode, ClearAll, ErrorReset, NoOperation, Setup, Store}
+use Rattle.tally.specs.Tally.{hasRoom}
+use Rattle.tallies.specs.Memory.{tallyAt, withTally}
+use Rattle.line.specs.Line.{withUndo}
+use Rattle.line.specs.Effect.{plain, replied}
+use Rattle.line.specs.Sample.{sampled}
+use Rattle.line.specs.Tallying.{Out, isVerdict, untallied, tallied, passedOver, noted, recorded, cancelled}
+use Rattle.line.specs.Step.{accepted}
+use Rattle.line.specs.declared.line.Line.{Line}
+use Rattle.line.specs.declared.line.Undo.{Undo}
+use Rattle.line.specs.declared.line.Undo.the-variants.{Nothing, Kept}
+use Rattle.line.specs.declared.effect.Effect.{Effect}
+use Rattle.line.specs.declared.reply.Reply.{Reply}
+use Rattle.line.specs.declared.reply.Reply.the-variants.{Refused, Done}
+
+abbrev pub isDone : Reply → Bool
+isDone (Refused number input) = false
+isDone (Done d) = true
+
+abbrev NoRefusal : Out → Type 0
+NoRefusal o = isDone (o .reply) ≡ true
+
+untallied-done : (x : Effect) (ts : List ℤ) → NoRefusal (untallied x ts)
+unfolding replied
+untallied-done x ts = refl
+
+recorded-done : (x : Effect) (ts : List ℤ) → NoRefusal (recorded x ts)
+unfolding recorded noted replied
+recorded-done x ts =
+    if-ind NoRefusal (isVerdict (x .outcome)) _ _
+    (λ _. if-ind NoRefusal (hasRoom (tallyAt ts (x .line .code))) (tallied x ts (tallyAt ts (x .line .code))) (passedOver x ts) (λ _. refl) (λ _. refl))
+    (λ _. refl)
+
+cancelled-done : (l : Line) (ts : List ℤ) (u : Undo) → NoRefusal (cancelled l ts u)
+unfolding cancelled
+cancelled-done l ts Nothing = untallied-done (plain l) ts
+cancelled-done l ts (Kept t) = untallied-done (plain (withUndo l Nothing)) (withTally ts (l .code) t)
+
+pub accepted-done : (l : Line) (a : Settings) (ts : List ℤ) (e : Event) → isDone (accepted l a ts e .reply) ≡ true
+unfolding accepted replied
+accepted-done l a ts (Sample s) = recorded-done (sampled l a s) ts
+accepted-done l a ts Run = refl
+accepted-done l a ts Stop = refl
+accepted-done l a ts Emergency = refl
+accepted-done l a ts (Recall c) = refl
+accepted-done l a ts Cancel = cancelled-done l ts (l .undo)
+accepted-done l a ts (ClearCode c) = refl
+accepted-done l a ts ClearAll = refl
+accepted-done l a ts ErrorReset = refl
+accepted-done l a ts NoOperation = refl
+accepted-done l a ts (Setup s) = refl
+accepted-done l a ts (Store c s) = refl

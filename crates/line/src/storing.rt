@@ -1,0 +1,46 @@
+// Which settings record an event replaces.
+ghost use mathlib.Core.Path.{_≡_};
+ghost use Rattle.line.specs.Step.{stores, storingFor};
+use crate::reply::Reply;
+use crate::reply::Step;
+use event::Event;
+use settings::Settings;
+
+// The record of `code` becomes `settings`; a code past the end stands for none.
+pub struct Storing {
+    pub code: u64,
+    pub settings: Settings,
+}
+
+// Of `count` lent records an accepted event replaces a store's, else none.
+fn stores(count: u64, active: Settings, e: Event) -> Storing
+    ensures { λ r. ⌜ r ≡ stores count active e ⌝ }
+{
+    let Event::Store(code, settings) = e else {
+        return Storing {
+            code: count,
+            settings: active,
+        };
+    };
+    Storing {
+        code: code,
+        settings: settings,
+    }
+}
+
+// A refused event replaces none.
+pub(crate) fn storing_for(step: Step, count: u64, active: Settings, e: Event) -> Storing
+    ensures { λ r. ⌜ r ≡ storingFor count active e (step .reply) ⌝ }
+{
+    let reply = step.reply;
+    match reply {
+        Reply::Refused {
+            number: _,
+            input: _,
+        } => Storing {
+            code: count,
+            settings: active,
+        },
+        Reply::Done(_) => stores(count, active, e),
+    }
+}

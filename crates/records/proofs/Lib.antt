@@ -1,0 +1,5 @@
+pub mod Past
+pub mod Loans
+pub mod Owned
+pub mod Records
+pub mod Clauses
