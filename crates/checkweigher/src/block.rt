@@ -1,9 +1,10 @@
 // The lines of a block of input, each answered in its turn.
 ghost use Prim.Native.Nat.{_+_, _<_, _≤_};
 ghost use lib.ListN.{length};
+use crate::flat::Storing;
+use crate::flat::serve;
 use crate::output::room_made;
 use crate::output::write_out;
-use controller::Storing;
 use line::Line;
 use replay::Plant;
 use settings::Settings;
@@ -143,7 +144,7 @@ fn serve_from(
         let said = text::read_line(&input[start..end]);
         let active = settings[slot(line.code)];
         let own = settings[own_slot(said)];
-        let served = controller::serve(line, 100, active, own, tallies, said, &mut out[at..]);
+        let served = serve(line, 100, active, own, tallies, said, &mut out[at..]);
         line = served.line;
         place = next(input, end, out, at, served.len);
         let storing = served.storing;

@@ -1,5 +1,6 @@
 // The checkweigher: lines from standard input, each answered on standard output.
 mod block;
+mod flat;
 mod input;
 mod output;
 

@@ -1,103 +1,52 @@
--- 01, "Text lines": what a line of text says goes through the controller, and the answer is written.
+-- 01, "Text lines": what a line of text says goes through the controller, and is answered.
 use Prim.Native.Nat.{ℕ}
-use mathlib.Core.Bool.{_&&_}
 use mathlib.Core.List.{List}
-use lib.Dec.{eqb}
 use lib.IntN.{ℤ}
 use lib.ListN.{length}
-use Rattle.weight.specs.Choice.{if_then_else_}
-use Rattle.settings.specs.Settings.{settingsLength}
 use Rattle.settings.specs.declared.Settings.{Settings}
-use Rattle.event.specs.declared.Event.{Event}
-use Rattle.event.specs.declared.Event.the-variants.{Sample, Run, Stop, Emergency, Recall, Cancel, ClearCode, ClearAll, ErrorReset, NoOperation, Setup, Store}
-use Rattle.tallies.specs.Memory.{talliesLength}
-use Rattle.sheet.specs.Report.{reportOf}
-use Rattle.sheet.specs.declared.answer.Report.{Report}
-use Rattle.sheet.specs.declared.answer.Report.the-variants as report
-use Rattle.line.specs.Step.{stepOf}
+use Rattle.sheet.specs.Report.{reportOn}
+use Rattle.line.specs.Step.{stepOn, settingsAfter}
 use Rattle.line.specs.declared.line.Line.{Line}
-use Rattle.line.specs.declared.reply.Reply.{Reply}
-use Rattle.line.specs.declared.reply.Reply.the-variants.{Refused, Done}
+use Rattle.line.specs.declared.reply.Step.{Step}
 use Rattle.text.specs.declared.Read.{Read}
 use Rattle.text.specs.declared.Read.the-variants as read
-use Rattle.print.specs.Reply.{replyText}
-use Rattle.print.specs.Sheet.{sheetText}
-use Rattle.print.specs.Written.{written, lengthWritten}
-use Rattle.controller.specs.declared.Storing.{Storing}
-use Rattle.controller.specs.declared.Storing.the-variants.{Nothing, At}
+use Rattle.controller.specs.Answer.{Answer, replied, reported, refusedText, putAt, endAt}
 use Rattle.controller.specs.declared.Served.{Served}
 
--- a text to print, and the least buffer that it is written to
-pub record Answer : Type 0 where
-  pub room : ℕ
-  pub text : List ℕ
+-- the answer to what is no event: a report's, or the text's refusal
+unfoldable pub otherAnswer : List Settings → List ℤ → Read → Answer
+otherAnswer ss ts (read.Event e) = refusedText (length ss) ts
+otherAnswer ss ts (read.Report code) = reported code (reportOn ss ts code)
+otherAnswer ss ts read.Other = refusedText (length ss) ts
 
-abbrev pub reply : Reply → Answer
-reply r = record { room = 256; text = replyText r }
+unfoldable pub answerTo : Line → List Settings → List ℤ → Read → Answer
+answerTo l ss ts (read.Event e) = replied (stepOn l ss ts e .reply)
+answerTo l ss ts (read.Report code) = reported code (reportOn ss ts code)
+answerTo l ss ts read.Other = refusedText (length ss) ts
 
--- a report's answer: its refusal, or the code's sheet
-abbrev pub reportAnswer : ℕ → Report → Answer
-reportAnswer code (report.Refused number) = reply (Refused number 0)
-reportAnswer code (report.Printed s) = record { room = 1024; text = sheetText code s }
+-- only an event changes the line, the records and the tallies
+unfoldable pub lineAfter : Line → List Settings → List ℤ → Read → Line
+lineAfter l ss ts (read.Event e) = stepOn l ss ts e .line
+lineAfter l ss ts (read.Report code) = l
+lineAfter l ss ts read.Other = l
 
--- "A line that reads as no event and no report is refused 1"; "Every call checks both lengths" (8) before that
-abbrev pub noEvent : ℕ → List ℤ → Reply
-noEvent count ts = Refused (if eqb count settingsLength && eqb (length ts) talliesLength then 1 else 8) 0
+unfoldable pub recordsAfter : Line → List Settings → List ℤ → Read → List Settings
+recordsAfter l ss ts (read.Event e) = settingsAfter l ss ts e
+recordsAfter l ss ts (read.Report code) = ss
+recordsAfter l ss ts read.Other = ss
 
--- what is no event: a report, or text refused
-abbrev pub elseAnswer : ℕ → Settings → List ℤ → Read → Answer
-elseAnswer count own ts (read.Event e) = reply (noEvent count ts)
-elseAnswer count own ts (read.Report code) = reportAnswer code (reportOf count own ts code)
-elseAnswer count own ts read.Other = reply (noEvent count ts)
+unfoldable pub talliesAfter : Line → List Settings → List ℤ → Read → List ℤ
+talliesAfter l ss ts (read.Event e) = stepOn l ss ts e .tallies
+talliesAfter l ss ts (read.Report code) = ts
+talliesAfter l ss ts read.Other = ts
 
--- a is the active code's record, own that of the code to report
-unfoldable pub answerTo : Line → ℕ → Settings → Settings → List ℤ → Read → Answer
-answerTo l count a own ts (read.Event e) = reply (stepOf l count a ts e .reply)
-answerTo l count a own ts (read.Report code) = reportAnswer code (reportOf count own ts code)
-answerTo l count a own ts read.Other = reply (noEvent count ts)
+-- the answer to a step that was made
+abbrev pub servedStep : Step → List ℕ → ℕ → Served
+servedStep step out at = record { line = step .line; at = endAt at (replied (step .reply)) out }
 
--- only an event changes the line and the tallies
-unfoldable pub lineAfter : Line → ℕ → Settings → List ℤ → Read → Line
-lineAfter l count a ts (read.Event e) = stepOf l count a ts e .line
-lineAfter l count a ts (read.Report code) = l
-lineAfter l count a ts read.Other = l
+-- the answer stands behind the first bytes of the output
+abbrev pub servedBy : Line → List Settings → List ℤ → Read → List ℕ → ℕ → Served
+servedBy l ss ts said out at = record { line = lineAfter l ss ts said; at = endAt at (answerTo l ss ts said) out }
 
-unfoldable pub talliesAfter : Line → ℕ → Settings → List ℤ → Read → List ℤ
-talliesAfter l count a ts (read.Event e) = stepOf l count a ts e .tallies
-talliesAfter l count a ts (read.Report code) = ts
-talliesAfter l count a ts read.Other = ts
-
--- "Store replaces one code's settings": which record the lender puts where
-unfoldable pub stores : Event → Storing
-stores (Sample s) = Nothing
-stores Run = Nothing
-stores Stop = Nothing
-stores Emergency = Nothing
-stores (Recall c) = Nothing
-stores Cancel = Nothing
-stores (ClearCode c) = Nothing
-stores ClearAll = Nothing
-stores ErrorReset = Nothing
-stores NoOperation = Nothing
-stores (Setup s) = Nothing
-stores (Store c s) = At c s
-
-abbrev pub storingFor : Event → Reply → Storing
-storingFor e (Refused number input) = Nothing
-storingFor e (Done d) = stores e
-
-unfoldable pub storingAfter : Line → ℕ → Settings → List ℤ → Read → Storing
-storingAfter l count a ts (read.Event e) = storingFor e (stepOf l count a ts e .reply)
-storingAfter l count a ts (read.Report code) = Nothing
-storingAfter l count a ts read.Other = Nothing
-
-abbrev pub servedBy : Line → ℕ → Settings → Settings → List ℤ → Read → List ℕ → Served
-servedBy l count a own ts said out =
-    record {
-      line = lineAfter l count a ts said;
-      storing = storingAfter l count a ts said;
-      len = lengthWritten (answerTo l count a own ts said .room) (answerTo l count a own ts said .text) out;
-    }
-
-abbrev pub outputAfter : Line → ℕ → Settings → Settings → List ℤ → Read → List ℕ → List ℕ
-outputAfter l count a own ts said out = written (answerTo l count a own ts said .room) (answerTo l count a own ts said .text) out
+abbrev pub outputAfter : Line → List Settings → List ℤ → Read → List ℕ → ℕ → List ℕ
+outputAfter l ss ts said out at = putAt at (answerTo l ss ts said) out

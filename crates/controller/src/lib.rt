@@ -1,127 +1,109 @@
-// What a line of text says, through the controller: the next line, what is to be stored where, the tallies, and the
-// answer written to a lent buffer.
+// The controller of a belt checkweigher.
+//
+// A `Line` is the belt's state: an event takes it by value and hands back the next one. The caller owns two memories and
+// lends them to each call: the settings, a hundred records, one for each code, and the tallies, 1,300 numbers, thirteen for
+// each code. Fresh memory is all zeros.
+//
+//     let mut records = [Settings::blank(); 100];
+//     let mut tallies = [0i64; 1300];
+//     let line = Line::fresh();
+//
+// `Line::apply` is one event: a sample of the sensors every 10 ms, a command, a setup or a store.
+//
+//     let step = line.apply(&mut records, &mut tallies, Event::Run);
+//     let line = step.line;
+//     match step.reply {
+//         Reply::Done(done) => ..                      what the line shows now, and what the event did
+//         Reply::Refused { number, input } => ..       nothing has changed
+//     }
+//
+// It refuses with the number of the first condition that holds: 8 memory of a wrong length or unfit, 2 a field out of range,
+// 3 the wrong status, 4 a contradiction, 5 a required safety input off (`input` says which), 6 run with a box on the scale,
+// 7 nothing to cancel.
+//
+// `report` is a code's sheet; the memories are only read. It refuses 8, memory, and 2, a code out of range.
+//
+// `serve` is either as a line of text, answered as text. Text that is neither is refused 1.
+//
+// No call has a condition that its caller must see to.
 ghost use mathlib.Core.Path.{_≡_};
-ghost use Rattle.sheet.specs.Report.{reportOf};
-ghost use Rattle.print.specs.Written.{written, lengthWritten};
-ghost use Rattle.controller.specs.Serve.{reportAnswer, noEvent, elseAnswer, stores, storingFor, talliesAfter, servedBy, outputAfter};
-use event::Event;
-use line::Line;
-use line::Reply;
-use settings::Settings;
-use sheet::Report;
+ghost use Rattle.controller.specs.Answer.{replied, putAt, endAt};
+ghost use Rattle.controller.specs.Serve.{otherAnswer, servedStep, servedBy, recordsAfter, talliesAfter, outputAfter};
+ghost use Rattle.text.specs.Read.{readLine};
+
+mod answer;
+
+use answer::put_refused;
+use answer::put_reply;
+use answer::put_report;
+pub use event::Event;
+pub use event::Sample;
+pub use event::Setup;
+pub use line::Done;
+pub use line::Line;
+pub use line::Reply;
+pub use line::Step;
+pub use settings::Settings;
+pub use sheet::Report;
+pub use sheet::Sheet;
+pub use sheet::report;
 use text::Read;
 
-// Which settings record the lender is to replace.
-pub enum Storing {
-    Nothing,
-    At(u64, Settings),
-}
-
+// The next line, and where the output ends.
 pub struct Served {
     pub line: Line,
-    pub storing: Storing,
-    pub len: usize,
+    pub at: usize,
 }
 
-fn stores(e: Event) -> Storing
-    ensures { λ r. ⌜ r ≡ stores e ⌝ }
+// What is no event: a report is printed, other text is refused.
+fn not_event(records: &[Settings], tallies: &[i64], said: Read, out: &mut [u8], at: usize) -> usize
+    ensures end { λ r. ⌜ r ≡ endAt at (otherAnswer (now (records .entry)) (now (tallies .entry)) said) (now (out .entry)) ⌝ }
+    ensures output { λ r. ⌜ now (out .exit) ≡ putAt at (otherAnswer (now (records .entry)) (now (tallies .entry)) said) (now (out .entry)) ⌝ }
 {
-    let Event::Store(c, s) = e else {
-        return Storing::Nothing;
+    let Read::Report(code) = said else {
+        return put_refused(out, at, records.len(), tallies);
     };
-    Storing::At(c, s)
+    let r = sheet::report(records, tallies, code);
+    put_report(out, at, code, r)
 }
 
-fn storing_for(e: Event, r: Reply) -> Storing
-    ensures { λ s. ⌜ s ≡ storingFor e r ⌝ }
+// A step's reply is written.
+fn answered(step: Step, out: &mut [u8], at: usize) -> Served
+    ensures answer { λ r. ⌜ r ≡ servedStep step (now (out .entry)) at ⌝ }
+    ensures output { λ r. ⌜ now (out .exit) ≡ putAt at (replied (step .reply)) (now (out .entry)) ⌝ }
 {
-    match r {
-        Reply::Refused {
-            number: _,
-            input: _,
-        } => Storing::Nothing,
-        Reply::Done(_) => stores(e),
+    let reply = step.reply;
+    let line = step.line;
+    let end = put_reply(out, at, reply);
+    Served {
+        line: line,
+        at: end,
     }
 }
 
-// The answer to a report.
-fn reported(out: &mut [u8], count: u64, own: Settings, tallies: &[i64], code: u64) -> usize
-    ensures len { λ n. ⌜ n ≡ lengthWritten (reportAnswer code (reportOf count own (now (tallies .entry)) code) .room) (reportAnswer code (reportOf count own (now (tallies .entry)) code) .text) (now (out .entry)) ⌝ }
-    ensures output { λ n. ⌜ now (out .exit) ≡ written (reportAnswer code (reportOf count own (now (tallies .entry)) code) .room) (reportAnswer code (reportOf count own (now (tallies .entry)) code) .text) (now (out .entry)) ⌝ }
-{
-    let r = sheet::report_on(count, own, tallies, code);
-    match r {
-        Report::Refused(number) => {
-            let reply = Reply::Refused {
-                number: number,
-                input: 0,
-            };
-            print::reply_line(out, reply)
-        }
-        Report::Printed(s) => print::sheet_lines(out, code, s),
-    }
-}
-
-// The reply to text that is no event and no report.
-fn no_event(count: u64, tallies: &[i64]) -> Reply
-    ensures { λ r. ⌜ r ≡ noEvent count (now (tallies .entry)) ⌝ }
-{
-    if (count == 100) & (tallies.len() == 1300) {
-        return Reply::Refused {
-            number: 1,
-            input: 0,
-        };
-    }
-    Reply::Refused {
-        number: 8,
-        input: 0,
-    }
-}
-
-// The answer to what is no event.
-fn answered(out: &mut [u8], count: u64, own: Settings, tallies: &[i64], said: Read) -> usize
-    ensures len { λ n. ⌜ n ≡ lengthWritten (elseAnswer count own (now (tallies .entry)) said .room) (elseAnswer count own (now (tallies .entry)) said .text) (now (out .entry)) ⌝ }
-    ensures output { λ n. ⌜ now (out .exit) ≡ written (elseAnswer count own (now (tallies .entry)) said .room) (elseAnswer count own (now (tallies .entry)) said .text) (now (out .entry)) ⌝ }
-{
-    match said {
-        Read::Report(code) => reported(out, count, own, tallies, code),
-        Read::Event(_) => print::reply_line(out, no_event(count, tallies)),
-        Read::Other => print::reply_line(out, no_event(count, tallies)),
-    }
-}
-
-// One line of text, read: `count` settings records are lent, `active` is the active code's and `own` that of the code
-// to report. An event changes the line and the tallies; everything is answered at the front of `out`.
+// One line of text: what it says goes through the line, the records and the tallies, and the answer is written to `out` from
+// `at` on.
 pub fn serve(
     line: Line,
-    count: u64,
-    active: Settings,
-    own: Settings,
+    records: &mut [Settings],
     tallies: &mut [i64],
-    said: Read,
+    text: &[u8],
     out: &mut [u8],
+    at: usize,
 ) -> Served
-    ensures answer { λ r. ⌜ r ≡ servedBy line count active own (now (tallies .entry)) said (now (out .entry)) ⌝ }
-    ensures memory { λ r. ⌜ now (tallies .exit) ≡ talliesAfter line count active (now (tallies .entry)) said ⌝ }
-    ensures output { λ r. ⌜ now (out .exit) ≡ outputAfter line count active own (now (tallies .entry)) said (now (out .entry)) ⌝ }
+    ensures answer { λ r. ⌜ r ≡ servedBy line (now (records .entry)) (now (tallies .entry)) (readLine (now (text .entry))) (now (out .entry)) at ⌝ }
+    ensures settings { λ r. ⌜ now (records .exit) ≡ recordsAfter line (now (records .entry)) (now (tallies .entry)) (readLine (now (text .entry))) ⌝ }
+    ensures memory { λ r. ⌜ now (tallies .exit) ≡ talliesAfter line (now (records .entry)) (now (tallies .entry)) (readLine (now (text .entry))) ⌝ }
+    ensures output { λ r. ⌜ now (out .exit) ≡ outputAfter line (now (records .entry)) (now (tallies .entry)) (readLine (now (text .entry))) (now (out .entry)) at ⌝ }
 {
+    let said = text::read_line(text);
     let Read::Event(e) = said else {
-        let len = answered(out, count, own, &*tallies, said);
-        let storing = Storing::Nothing;
+        let end = not_event(records, tallies, said, out, at);
         return Served {
             line: line,
-            storing: storing,
-            len: len,
+            at: end,
         };
     };
-    let step = line.step(count, active, tallies, e);
-    let reply = step.reply;
-    let len = print::reply_line(out, reply);
-    let next = step.line;
-    let storing = storing_for(e, reply);
-    Served {
-        line: next,
-        storing: storing,
-        len: len,
-    }
+    let step = line.apply(records, tallies, e);
+    answered(step, out, at)
 }

@@ -3,3 +3,5 @@ pub mod Loans
 pub mod Owned
 pub mod Records
 pub mod Clauses
+pub mod Lending
+pub mod Parts

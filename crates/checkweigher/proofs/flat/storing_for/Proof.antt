@@ -1,7 +1,7 @@
 -- `storing_for` stores nothing of a refused event. Assumes nothing.
 use borrow.Author.Needs.{needs}
-use Rattle.controller.proofs.storing_for.Statement.{statement}
-use Rattle.controller.proofs.storing_for.Tie as tie
+use Rattle.checkweigher.proofs.flat.storing_for.Statement.{statement}
+use Rattle.checkweigher.proofs.flat.storing_for.Tie as tie
 
 enum-told : tie.Need-enum-told
 enum-told c = search needs

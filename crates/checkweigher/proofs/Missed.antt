@@ -13,8 +13,8 @@ use Rattle.line.specs.declared.line.Line.{Line}
 use Rattle.text.specs.declared.Read.{Read}
 use Rattle.text.specs.declared.Read.the-variants as said
 use Rattle.text.proofs.Read as read
-use Rattle.controller.specs.Serve.{elseAnswer, answerTo, lineAfter, talliesAfter, stores, storingAfter}
-use Rattle.controller.specs.declared.Storing.the-variants.{Nothing}
+use Rattle.checkweigher.specs.Flat.{elseAnswer, answerTo, lineAfter, talliesAfter, stores, storingAfter}
+use Rattle.checkweigher.specs.declared.flat.Storing.the-variants.{Nothing}
 
 -- the kinds of event but store, by their places in the enum
 abbrev pub others : List ℕ

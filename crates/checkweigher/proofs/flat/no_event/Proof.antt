@@ -1,6 +1,6 @@
 -- `no_event` equals its definition `noEvent`. Assumes nothing.
-use Rattle.controller.proofs.no_event.Statement.{statement}
-use Rattle.controller.proofs.no_event.Tie as tie
+use Rattle.checkweigher.proofs.flat.no_event.Statement.{statement}
+use Rattle.checkweigher.proofs.flat.no_event.Tie as tie
 
 returns : tie.Need-returns
 returns c = simp (c .if1 .taken)

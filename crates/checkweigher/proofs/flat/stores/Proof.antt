@@ -1,9 +1,9 @@
 -- `stores` tells a store from the other kinds. Assumes nothing.
 use borrow.Author.Needs.{needs}
-use Rattle.controller.proofs.Missed.{nothing-stored}
-use Rattle.controller.specs.Serve.{stores}
-use Rattle.controller.proofs.stores.Statement.{statement}
-use Rattle.controller.proofs.stores.Tie as tie
+use Rattle.checkweigher.proofs.Missed.{nothing-stored}
+use Rattle.checkweigher.specs.Flat.{stores}
+use Rattle.checkweigher.proofs.flat.stores.Statement.{statement}
+use Rattle.checkweigher.proofs.flat.stores.Tie as tie
 
 enum-known-e : tie.Need-enum-known-e
 enum-known-e c = search needs

@@ -1,8 +1,8 @@
 -- `reported` writes the report's refusal or the sheet. Assumes nothing.
 use borrow.Author.Needs.{needs}
 use mathlib.Core.Path.{sym, _∙_}
-use Rattle.controller.proofs.reported.Statement.{statement}
-use Rattle.controller.proofs.reported.Tie as tie
+use Rattle.checkweigher.proofs.flat.reported.Statement.{statement}
+use Rattle.checkweigher.proofs.flat.reported.Tie as tie
 
 report-on-requires : tie.Need-report-on-requires
 report-on-requires c κs = search needs

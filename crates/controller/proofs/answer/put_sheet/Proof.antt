@@ -1,0 +1,60 @@
+-- `put_sheet` writes a sheet's lines behind what stands in the buffer. Assumes nothing.
+use borrow.Author.Needs.{needs}
+use native.Mathlib.Omega.{arith}
+use mathlib.Core.Path.{refl, sym, _∙_, ap}
+use Prim.Native.Nat.{_<_, _^_}
+use lib.ListN.{length}
+use Rattle.controller.specs.Answer.{printed}
+use Rattle.controller.proofs.Behind.{past, behind, fits}
+use Rattle.controller.proofs.answer.put_sheet.Statement.{statement}
+use Rattle.controller.proofs.answer.put_sheet.Tie as tie
+
+returns : tie.Need-returns
+returns c =
+    let a = c .before .before .args in
+    let p = past (a .at) (printed (a .code) (a .s)) (a .out .now) refl (omega (arith, c .if1 .taken)) in
+    (p .ends, p .output)
+
+sub-sheet-lines : tie.Need-sub-sheet-lines
+sub-sheet-lines c = search needs
+
+part-sheet-lines-start : tie.Need-part-sheet-lines-start
+part-sheet-lines-start c = search needs
+
+part-sheet-lines-end : tie.Need-part-sheet-lines-end
+part-sheet-lines-end c = search needs
+
+sheet-lines-requires : tie.Need-sheet-lines-requires
+sheet-lines-requires c κs = search needs
+
+-- what is written lies within the buffer, which the machine can address
+add-result : tie.Need-add-result
+add-result c =
+    let a = c .before .before .before .before .before .before .args in
+    let w = c .before .before .sheet-lines in
+    let h = fits (a .at) (printed (a .code) (a .s)) (a .out .now) (w .last .0) (w .result) (omega (arith, c .before .before .before .before .if1 .left)) (w .ensures .0) (w .ensures .1) (c .before .out .given .0) in
+    let k : length (a .out .now) < 2 ^ 64 = search needs in
+    record { fits = omega (arith, h, k) }
+
+same-length : tie.Need-same-length
+same-length c = search needs
+
+returns-2 : tie.Need-returns-2
+returns-2 c =
+    let a = c .before .before .before .before .before .before .args in
+    let w = c .before .before .sheet-lines in
+    let p = behind (a .at) (printed (a .code) (a .s)) (a .out .now) (w .last .0) (w .result) (w .ensures .0) (w .ensures .1) in
+    (p .ends, p .output)
+
+pub put-sheet-spec : {M : Type 1} → statement M
+put-sheet-spec =
+    tie.close
+    (tie.spec
+    returns
+    sub-sheet-lines
+    part-sheet-lines-start
+    part-sheet-lines-end
+    sheet-lines-requires
+    add-result
+    same-length
+    returns-2)

@@ -1,0 +1,49 @@
+-- 01, "Text lines": what is answered to a line of text, and where in a lent buffer it is written.
+use Prim.Native.Nat.{ℕ, _+_}
+use mathlib.Core.Bool.{_&&_}
+use mathlib.Core.List.{List, _++_}
+use lib.Dec.{eqb}
+use lib.IntN.{ℤ}
+use lib.ListN.{length, take, drop}
+use Rattle.weight.specs.Choice.{if_then_else_}
+use Rattle.settings.specs.Settings.{settingsLength}
+use Rattle.tallies.specs.Memory.{talliesLength}
+use Rattle.sheet.specs.declared.answer.Report.{Report}
+use Rattle.sheet.specs.declared.answer.Report.the-variants as report
+use Rattle.sheet.specs.declared.sheet.Sheet.{Sheet}
+use Rattle.line.specs.declared.reply.Reply.{Reply}
+use Rattle.line.specs.declared.reply.Reply.the-variants.{Refused}
+use Rattle.print.specs.Reply.{replyText}
+use Rattle.print.specs.Sheet.{sheetText}
+use Rattle.print.specs.Written.{written, lengthWritten}
+
+-- a text to print, and the least room that it is written to
+pub record Answer : Type 0 where
+  pub room : ℕ
+  pub text : List ℕ
+
+abbrev pub replied : Reply → Answer
+replied r = record { room = 256; text = replyText r }
+
+abbrev pub printed : ℕ → Sheet → Answer
+printed code s = record { room = 1024; text = sheetText code s }
+
+-- a report's refusal, or the code's sheet
+abbrev pub reported : ℕ → Report → Answer
+reported code (report.Refused number) = replied (Refused number 0)
+reported code (report.Printed s) = printed code s
+
+-- "A line that reads as no event and no report is refused 1"; "Every call checks both lengths" (8) before that
+abbrev pub textRefusal : ℕ → List ℤ → ℕ
+textRefusal count ts = if eqb count settingsLength && eqb (length ts) talliesLength then 1 else 8
+
+abbrev pub refusedText : ℕ → List ℤ → Answer
+refusedText count ts = replied (Refused (textRefusal count ts) 0)
+
+-- the answer behind the first bytes of a buffer: they stay, and it is written to the rest
+unfoldable pub putAt : ℕ → Answer → List ℕ → List ℕ
+putAt at a out = take at out ++ written (a .room) (a .text) (drop at out)
+
+-- where it ends
+unfoldable pub endAt : ℕ → Answer → List ℕ → ℕ
+endAt at a out = at + lengthWritten (a .room) (a .text) (drop at out)
