@@ -1,1 +1,3 @@
-pub mod Missed
+pub mod Sessions
+pub mod Lines
+pub mod Blocks

@@ -1,15 +1,30 @@
 // The lines of a block of input, each answered in its turn.
 ghost use Prim.Native.Nat.{_+_, _<_, _≤_};
+ghost use mathlib.Core.Path.{_≡_};
 ghost use lib.ListN.{length};
-use crate::flat::Storing;
-use crate::flat::serve;
 use crate::output::room_made;
 use crate::output::write_out;
+use controller::Served;
+use controller::serve;
 use line::Line;
-use replay::Plant;
 use settings::Settings;
-use text::Read;
 
+// What the program keeps from block to block: the line and the settings records.
+pub(crate) struct Plant {
+    pub(crate) line: Line,
+    pub(crate) settings: [Settings; 100],
+}
+
+impl Plant {
+    pub(crate) fn fresh() -> Plant {
+        Plant {
+            line: Line::fresh(),
+            settings: [Settings::blank(); 100],
+        }
+    }
+}
+
+// The plant behind a block, and where what is left of the block begins.
 pub(crate) struct Block {
     pub(crate) plant: Plant,
     pub(crate) start: usize,
@@ -69,56 +84,93 @@ fn line_end(input: &[u8], start: usize) -> usize
     i
 }
 
-// The place of a code's record; a code out of range is refused whatever the record.
-fn slot(code: u64) -> usize
-    ensures { λ r. ⌜ r < 100 ⌝ }
-{
-    (code % 100) as usize
+// A session over a block: the line of text that begins at `start` ends at `end`, and its answer goes to `at`.
+pub(crate) struct Session {
+    pub(crate) line: Line,
+    pub(crate) start: usize,
+    pub(crate) end: usize,
+    pub(crate) at: usize,
 }
 
-fn own_slot(said: Read) -> usize
-    ensures { λ r. ⌜ r < 100 ⌝ }
+pub(crate) fn begin(line: Line, input: &[u8]) -> Session
+    ensures order { λ r. ⌜ r .start ≤ r .end ⌝ }
+    ensures within { λ r. ⌜ r .end ≤ length (now (input .entry)) ⌝ }
 {
-    let Read::Report(code) = said else {
-        return 0;
-    };
-    slot(code)
+    let end = line_end(input, 0);
+    Session {
+        line: line,
+        start: 0,
+        end: end,
+        at: 0,
+    }
 }
 
-// Where the next line lies, and where its answer goes.
-struct Place {
-    start: usize,
-    end: usize,
-    at: usize,
+// Where the next answer goes, when the last ends at `at`: once no line follows that is complete, all of them are out.
+fn behind(out: &[u8], at: usize, more: bool) -> usize {
+    if more {
+        return room_made(out, at);
+    }
+    write_out(out, at);
+    0
 }
 
-// The place behind the line that ends with the LF at `lf`, once its answer of `len` bytes stands at `at`.
-fn next(input: &[u8], lf: usize, out: &[u8], at: usize, len: usize) -> Place
-    requires { ⌜ (lf < length (now input)) × (at ≤ length (now out)) ⌝ }
-    ensures { λ r. ⌜ (lf < r .end) × (r .start ≤ r .end) × (r .end ≤ length (now (input .entry))) × (r .at ≤ length (now (out .entry))) ⌝ }
+// The session behind the line that ends with the LF at `lf`, once it is answered.
+pub(crate) fn next(served: Served, input: &[u8], lf: usize, out: &[u8]) -> Session
+    ensures order { λ r. ⌜ r .start ≤ r .end ⌝ }
+    ensures within { λ r. ⌜ r .end ≤ length (now (input .entry)) ⌝ }
+    ensures further { λ r. ⌜ (lf < length (now (input .entry)) → lf < r .end) ⌝ }
 {
-    let behind = room_made(out, at, len);
-    if lf < input.len() {
+    let line = served.line;
+    let n = input.len();
+    if lf < n {
         let start = lf + 1;
-        return Place {
+        let end = line_end(input, start);
+        let at = behind(out, served.at, end < n);
+        return Session {
+            line: line,
             start: start,
-            end: line_end(input, start),
-            at: behind,
+            end: end,
+            at: at,
         };
     }
-    Place {
-        start: lf,
-        end: lf,
-        at: behind,
+    Session {
+        line: line,
+        start: n,
+        end: n,
+        at: served.at,
     }
 }
 
-pub(crate) fn serve_lines(plant: Plant, tallies: &mut [i64], input: &[u8], out: &mut [u8]) -> Block
+pub(crate) fn serve_lines(
+    session: Session,
+    records: &mut [Settings],
+    tallies: &mut [i64],
+    input: &[u8],
+    out: &mut [u8],
+) -> Session
+    requires { ⌜ (session .start ≤ session .end) × (session .end ≤ length (now input)) ⌝ }
     ensures { λ r. ⌜ r .start ≤ length (now (input .entry)) ⌝ }
 {
-    let line = plant.line;
-    let settings = plant.settings;
-    serve_from(line, settings, tallies, input, out)
+    let mut s = session;
+    while s.end < input.len() {
+        let served = serve(s.line, records, tallies, &input[s.start..s.end], out, s.at);
+        s = next(served, input, s.end, out);
+    }
+    s
+}
+
+pub(crate) fn rest(last: Session, settings: [Settings; 100]) -> Block
+    ensures { λ r. ⌜ r .start ≡ last .start ⌝ }
+{
+    let line = last.line;
+    let plant = Plant {
+        line: line,
+        settings: settings,
+    };
+    Block {
+        plant: plant,
+        start: last.start,
+    }
 }
 
 fn serve_from(
@@ -130,37 +182,17 @@ fn serve_from(
 ) -> Block
     ensures { λ r. ⌜ r .start ≤ length (now (input .entry)) ⌝ }
 {
-    let mut line = line;
-    let mut settings = settings;
-    let mut place = Place {
-        start: 0,
-        end: line_end(input, 0),
-        at: 0,
-    };
-    while place.end < input.len() {
-        let start = place.start;
-        let end = place.end;
-        let at = place.at;
-        let said = text::read_line(&input[start..end]);
-        let active = settings[slot(line.code)];
-        let own = settings[own_slot(said)];
-        let served = serve(line, 100, active, own, tallies, said, &mut out[at..]);
-        line = served.line;
-        place = next(input, end, out, at, served.len);
-        let storing = served.storing;
-        let Storing::At(code, s) = storing else {
-            continue;
-        };
-        let i = slot(code);
-        settings[i] = s;
-    }
-    write_out(out, place.at);
-    let plant = Plant {
-        line: line,
-        settings: settings,
-    };
-    Block {
-        plant: plant,
-        start: place.start,
-    }
+    let mut records = settings;
+    let session = begin(line, input);
+    let last = serve_lines(session, &mut records, tallies, input, out);
+    rest(last, records)
+}
+
+// The complete lines of a block.
+pub(crate) fn serve_block(plant: Plant, tallies: &mut [i64], input: &[u8], out: &mut [u8]) -> Block
+    ensures { λ r. ⌜ r .start ≤ length (now (input .entry)) ⌝ }
+{
+    let line = plant.line;
+    let settings = plant.settings;
+    serve_from(line, settings, tallies, input, out)
 }

@@ -4,9 +4,9 @@ ghost use Prim.Native.Nat.{_<_, _≤_};
 ghost use mathlib.Core.Path.{_≡_};
 ghost use lib.ListN.{length};
 use crate::block::Block;
-use crate::block::serve_lines;
+use crate::block::Plant;
+use crate::block::serve_block;
 use libc::STDIN_FILENO;
-use replay::Plant;
 
 // A line over 120 bytes is refused whatever follows: so much of it stands for all of it.
 const KEPT: usize = 121;
@@ -52,7 +52,7 @@ fn serve_last(plant: Plant, tallies: &mut [i64], input: &mut [u8], held: usize, 
         return;
     }
     input[held] = b'\n';
-    serve_lines(plant, tallies, &input[0..held + 1], out);
+    serve_block(plant, tallies, &input[0..held + 1], out);
 }
 
 // From a fresh line and memory to the end of the input.
@@ -69,7 +69,7 @@ pub(crate) fn serve_input() {
             serve_last(plant, &mut tallies, &mut input, held, &mut out);
             return;
         }
-        let block = serve_lines(plant, &mut tallies, &input[0..end], &mut out);
+        let block = serve_block(plant, &mut tallies, &input[0..end], &mut out);
         plant = block.plant;
         held = keep(&mut input, block.start, end);
         reads -= 1;

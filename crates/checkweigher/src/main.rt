@@ -1,6 +1,5 @@
 // The checkweigher: lines from standard input, each answered on standard output.
 mod block;
-mod flat;
 mod input;
 mod output;
 

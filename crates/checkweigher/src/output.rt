@@ -1,6 +1,4 @@
 // What is printed gathers in a buffer, and goes out when the next answer might not fit.
-ghost use Prim.Native.Nat.{_≤_};
-ghost use lib.ListN.{length};
 use libc::STDOUT_FILENO;
 
 // No answer is longer.
@@ -12,18 +10,14 @@ pub(crate) fn write_out(out: &[u8], at: usize) {
     }
 }
 
-// Where the next answer goes: behind the one of `len` bytes at `at`, or, once all of it is out, at the front.
-pub(crate) fn room_made(out: &[u8], at: usize, len: usize) -> usize
-    requires { ⌜ at ≤ length (now out) ⌝ }
-    ensures { λ r. ⌜ r ≤ length (now (out .entry)) ⌝ }
-{
-    let left = out.len() - at;
-    if left < len {
-        return at;
+// Where the next answer goes: behind the last, which ends at `at`, or, once all of it is out, at the front.
+pub(crate) fn room_made(out: &[u8], at: usize) -> usize {
+    let n = out.len();
+    if at < n {
+        if LONGEST <= n - at {
+            return at;
+        }
     }
-    if LONGEST <= left - len {
-        return at + len;
-    }
-    write_out(out, at + len);
+    write_out(out, at);
     0
 }

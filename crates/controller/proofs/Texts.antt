@@ -18,7 +18,7 @@ use prog.Routine.{Routine}
 use prog.Wp.{Heap}
 use ghost.Atoms.{Atoms, sem}
 use contract.Monad.{Fun, fact}
-use types.Kit.{Given, ‵, raw, _⊛_, some, later, _$_, _∵_, !, qed, move, keep, drop, use1, split, join, pick, check, rewrite, fsplit, fjoin, feqL, frame, await, updating, now as at-once, done}
+use types.Kit.{Given, ‵, raw, _⊛_, some, later, _$_, _∵_, !, qed, move, keep, use1, split, join, pick, check, rewrite, fsplit, fjoin, feqL, frame, await, updating, now as at-once, done}
 use denote.Laws.{Is, shows}
 use denote.Plain.{uint-tells, uint-makes}
 use denote.Builtin.{i64, u8, u64, usize}

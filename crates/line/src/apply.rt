@@ -155,7 +155,7 @@ impl Line {
 
     // The flat core: an event on the line and its tallies, where `count` settings records are lent and `active` is the active
     // code's. Refused, it changes nothing; accepted, it gives the next line, and a verdict, a cancel or a clear changes tallies.
-    pub fn step(self, count: u64, active: Settings, tallies: &mut [i64], e: Event) -> Step
+    fn step(self, count: u64, active: Settings, tallies: &mut [i64], e: Event) -> Step
         ensures answer { λ r. ⌜ r ≡ stepIn (stepOf self count active (now (tallies .entry)) e) ⌝ }
         ensures memory { λ r. ⌜ now (tallies .exit) ≡ stepOf self count active (now (tallies .entry)) e .tallies ⌝ }
     {

@@ -20,7 +20,7 @@ pub enum Report {
 }
 
 // The flat core: of the settings records a report needs only how many there are, and the code's own.
-pub fn report_on(count: u64, own: Settings, tallies: &[i64], code: u64) -> Report
+pub(crate) fn report_on(count: u64, own: Settings, tallies: &[i64], code: u64) -> Report
     ensures { λ r. ⌜ r ≡ reportOf count own (now (tallies .entry)) code ⌝ }
 {
     if count != 100 {

@@ -5,7 +5,6 @@ mod memory;
 mod sheet;
 
 pub use answer::Report;
-pub use answer::report_on;
 pub use laws::always_apart;
 pub use laws::bench;
 pub use memory::report;

@@ -2,7 +2,6 @@
 use mathlib.Core.Path.{ap}
 use Prim.Native.Nat.{ℕ}
 use borrow.Author.Needs.{needs}
-use Rattle.controller.specs.declared.Served.{Served}
 use Rattle.controller.proofs.answered.Statement.{statement}
 use Rattle.controller.proofs.answered.Tie as tie
 

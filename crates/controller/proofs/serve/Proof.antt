@@ -20,7 +20,7 @@ use base.Fml.{Lft, GName, Share, Fml, ftrue, fat, flft}
 use prog.Memory.{Memory}
 use prog.Routine.{Routine}
 use prog.Wp.{Heap, Env, Calls, Loops, WpFn, Tables}
-use ghost.Atoms.{Atoms, sem}
+use ghost.Atoms.{Atoms}
 use contract.Monad.{Fun}
 use contract.Running.{givenOf, tables, tablesOf}
 use types.Kit.{Given, Item, nth, atRet, ‵, raw, given, _⊛_, ⋆, some, later, _$_, _∵_, !, qed, by, move, keep, drop, use1, use2, split, join, pick, learn, fsplit, fjoin, suffices, frame, await, done}
@@ -52,10 +52,9 @@ use Rattle.line.specs.Tallying.{stepIn}
 use Rattle.line.specs.Step.{stepOn, settingsAfter}
 use Rattle.line.specs.declared.reply.Step.{Step}
 use Rattle.text.specs.declared.Read.{Read}
-use Rattle.text.specs.declared.Read.the-variants as Said
 use Rattle.text.specs.Read.{readLine}
 use Rattle.controller.specs.Answer.{Answer, replied, putAt, endAt}
-use Rattle.controller.specs.Serve.{otherAnswer, servedStep, answerTo, lineAfter, recordsAfter, talliesAfter}
+use Rattle.controller.specs.Serve.{otherAnswer, servedStep, answerTo, lineAfter}
 use Rattle.controller.specs.declared.Served.{Served}
 use Rattle.settings.proofs.Settings as T
 use Rattle.line.proofs.line.Line as L
@@ -85,7 +84,7 @@ use Rattle.records.proofs.Lending.{ref, tyOf, recell, use4, use6, let-go, lend-
 use Rattle.records.proofs.Clauses.{says4}
 use Rattle.controller.proofs.Leaving.{locals-at, leaves}
 use Rattle.controller.proofs.Fields.{Field, field-of, field-place, field-cell}
-use Rattle.controller.proofs.Variants.{Tagged, After, AsEvent, AsOther, after-step, event-or}
+use Rattle.controller.proofs.Variants.{After, AsEvent, AsOther, after-step, event-or}
 use Rattle.controller.proofs.Memories.{Apply, to-apply, asks-apply, ended-apply}
 use Rattle.controller.proofs.Texts.{ReadLine, to-read, asks-read, ended-read}
 use Rattle.controller.proofs.Others.{NotEvent, to-not-event, asks-not-event, ended-not-event, Answered, to-answered, asks-answered, ended-answered}

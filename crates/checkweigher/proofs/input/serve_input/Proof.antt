@@ -46,23 +46,23 @@ serve-last-requires c κs = search needs
 returns : tie.Need-returns Inv-loop μ-loop
 returns c = search needs
 
-slice-aggregate-serve-lines : tie.Need-slice-aggregate-serve-lines Inv-loop μ-loop
-slice-aggregate-serve-lines c = search needs
+slice-aggregate-serve-block : tie.Need-slice-aggregate-serve-block Inv-loop μ-loop
+slice-aggregate-serve-block c = search needs
 
-sub-serve-lines : tie.Need-sub-serve-lines Inv-loop μ-loop
-sub-serve-lines c = search needs
+sub-serve-block : tie.Need-sub-serve-block Inv-loop μ-loop
+sub-serve-block c = search needs
 
-part-serve-lines-start : tie.Need-part-serve-lines-start Inv-loop μ-loop
-part-serve-lines-start c = search needs
+part-serve-block-start : tie.Need-part-serve-block-start Inv-loop μ-loop
+part-serve-block-start c = search needs
 
-part-serve-lines-end : tie.Need-part-serve-lines-end Inv-loop μ-loop
-part-serve-lines-end c = search needs
+part-serve-block-end : tie.Need-part-serve-block-end Inv-loop μ-loop
+part-serve-block-end c = search needs
 
-slice-aggregate-serve-lines-2 : tie.Need-slice-aggregate-serve-lines-2 Inv-loop μ-loop
-slice-aggregate-serve-lines-2 c = search needs
+slice-aggregate-serve-block-2 : tie.Need-slice-aggregate-serve-block-2 Inv-loop μ-loop
+slice-aggregate-serve-block-2 c = search needs
 
-serve-lines-requires : tie.Need-serve-lines-requires Inv-loop μ-loop
-serve-lines-requires c κs = search needs
+serve-block-requires : tie.Need-serve-block-requires Inv-loop μ-loop
+serve-block-requires c κs = search needs
 
 slice-aggregate-keep : tie.Need-slice-aggregate-keep Inv-loop μ-loop
 slice-aggregate-keep c = search needs
@@ -99,12 +99,12 @@ serve-input-spec =
     slice-aggregate-serve-last-3
     serve-last-requires
     returns
-    slice-aggregate-serve-lines
-    sub-serve-lines
-    part-serve-lines-start
-    part-serve-lines-end
-    slice-aggregate-serve-lines-2
-    serve-lines-requires
+    slice-aggregate-serve-block
+    sub-serve-block
+    part-serve-block-start
+    part-serve-block-end
+    slice-aggregate-serve-block-2
+    serve-block-requires
     slice-aggregate-keep
     keep-requires
     sub-reads

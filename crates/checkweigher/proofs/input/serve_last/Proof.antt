@@ -11,23 +11,23 @@ returns c = search needs
 slice-write-input : tie.Need-slice-write-input
 slice-write-input c = search needs
 
-add-serve-lines : tie.Need-add-serve-lines
-add-serve-lines c = search needs
+add-serve-block : tie.Need-add-serve-block
+add-serve-block c = search needs
 
-sub-serve-lines : tie.Need-sub-serve-lines
-sub-serve-lines c = search needs
+sub-serve-block : tie.Need-sub-serve-block
+sub-serve-block c = search needs
 
-part-serve-lines-start : tie.Need-part-serve-lines-start
-part-serve-lines-start c = search needs
+part-serve-block-start : tie.Need-part-serve-block-start
+part-serve-block-start c = search needs
 
-part-serve-lines-end : tie.Need-part-serve-lines-end
-part-serve-lines-end c =
+part-serve-block-end : tie.Need-part-serve-block-end
+part-serve-block-end c =
     let s = c .before .before .before .before .before in
     let n = length-set (s .args .input .now) (s .args .held) 10 in
     omega (arith, n, s .pre)
 
-serve-lines-requires : tie.Need-serve-lines-requires
-serve-lines-requires c κs = search needs
+serve-block-requires : tie.Need-serve-block-requires
+serve-block-requires c κs = search needs
 
 same-length : tie.Need-same-length
 same-length c = search needs
@@ -47,11 +47,11 @@ serve-last-spec =
     (tie.spec
     returns
     slice-write-input
-    add-serve-lines
-    sub-serve-lines
-    part-serve-lines-start
-    part-serve-lines-end
-    serve-lines-requires
+    add-serve-block
+    sub-serve-block
+    part-serve-block-start
+    part-serve-block-end
+    serve-block-requires
     same-length
     same-length-2
     same-length-3
