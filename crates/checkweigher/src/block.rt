@@ -9,24 +9,10 @@ use controller::serve;
 use line::Line;
 use settings::Settings;
 
-// What the program keeps from block to block: the line and the settings records.
-pub(crate) struct Plant {
+// What a block leaves: the line, the settings records, and where what is left of the block begins.
+pub(crate) struct Block {
     pub(crate) line: Line,
     pub(crate) settings: [Settings; 100],
-}
-
-impl Plant {
-    pub(crate) fn fresh() -> Plant {
-        Plant {
-            line: Line::fresh(),
-            settings: [Settings::blank(); 100],
-        }
-    }
-}
-
-// The plant behind a block, and where what is left of the block begins.
-pub(crate) struct Block {
-    pub(crate) plant: Plant,
     pub(crate) start: usize,
 }
 
@@ -92,6 +78,7 @@ pub(crate) struct Session {
     pub(crate) at: usize,
 }
 
+// The session at the first line of a block.
 pub(crate) fn begin(line: Line, input: &[u8]) -> Session
     ensures order { λ r. ⌜ r .start ≤ r .end ⌝ }
     ensures within { λ r. ⌜ r .end ≤ length (now (input .entry)) ⌝ }
@@ -141,6 +128,7 @@ pub(crate) fn next(served: Served, input: &[u8], lf: usize, out: &[u8]) -> Sessi
     }
 }
 
+// The complete lines of a block, from a session on.
 pub(crate) fn serve_lines(
     session: Session,
     records: &mut [Settings],
@@ -159,21 +147,20 @@ pub(crate) fn serve_lines(
     s
 }
 
+// A session's end with the records that were lent to it. Whole values go in and out, which keeps the walk of `serve_block` small.
 pub(crate) fn rest(last: Session, settings: [Settings; 100]) -> Block
     ensures { λ r. ⌜ r .start ≡ last .start ⌝ }
 {
     let line = last.line;
-    let plant = Plant {
+    Block {
         line: line,
         settings: settings,
-    };
-    Block {
-        plant: plant,
         start: last.start,
     }
 }
 
-fn serve_from(
+// The complete lines of a block, with the line's own records lent to each.
+pub(crate) fn serve_block(
     line: Line,
     settings: [Settings; 100],
     tallies: &mut [i64],
@@ -186,13 +173,4 @@ fn serve_from(
     let session = begin(line, input);
     let last = serve_lines(session, &mut records, tallies, input, out);
     rest(last, records)
-}
-
-// The complete lines of a block.
-pub(crate) fn serve_block(plant: Plant, tallies: &mut [i64], input: &[u8], out: &mut [u8]) -> Block
-    ensures { λ r. ⌜ r .start ≤ length (now (input .entry)) ⌝ }
-{
-    let line = plant.line;
-    let settings = plant.settings;
-    serve_from(line, settings, tallies, input, out)
 }

@@ -3,10 +3,10 @@
 ghost use Prim.Native.Nat.{_<_, _≤_};
 ghost use mathlib.Core.Path.{_≡_};
 ghost use lib.ListN.{length};
-use crate::block::Block;
-use crate::block::Plant;
 use crate::block::serve_block;
 use libc::STDIN_FILENO;
+use line::Line;
+use settings::Settings;
 
 // A line over 120 bytes is refused whatever follows: so much of it stands for all of it.
 const KEPT: usize = 121;
@@ -45,14 +45,21 @@ fn read_behind(input: &mut [u8], held: usize) -> usize
 }
 
 // The last line, where no LF ends it.
-fn serve_last(plant: Plant, tallies: &mut [i64], input: &mut [u8], held: usize, out: &mut [u8])
+fn serve_last(
+    line: Line,
+    settings: [Settings; 100],
+    tallies: &mut [i64],
+    input: &mut [u8],
+    held: usize,
+    out: &mut [u8],
+)
     requires { ⌜ held < length (now input) ⌝ }
 {
     if held == 0 {
         return;
     }
     input[held] = b'\n';
-    serve_block(plant, tallies, &input[0..held + 1], out);
+    serve_block(line, settings, tallies, &input[0..held + 1], out);
 }
 
 // From a fresh line and memory to the end of the input.
@@ -60,17 +67,19 @@ pub(crate) fn serve_input() {
     let mut input = io::large_buffer();
     let mut out = io::large_buffer();
     let mut tallies = [0i64; 1300];
-    let mut plant = Plant::fresh();
+    let mut line = Line::fresh();
+    let mut settings = [Settings::blank(); 100];
     let mut held = 0;
     let mut reads = u64::MAX;
     while reads > 0 {
         let end = read_behind(&mut input, held);
         if end == held {
-            serve_last(plant, &mut tallies, &mut input, held, &mut out);
+            serve_last(line, settings, &mut tallies, &mut input, held, &mut out);
             return;
         }
-        let block = serve_block(plant, &mut tallies, &input[0..end], &mut out);
-        plant = block.plant;
+        let block = serve_block(line, settings, &mut tallies, &input[0..end], &mut out);
+        line = block.line;
+        settings = block.settings;
         held = keep(&mut input, block.start, end);
         reads -= 1;
     }

@@ -21,8 +21,8 @@ otherAnswer ss ts read.Other = refusedText (length ss) ts
 
 unfoldable pub answerTo : Line → List Settings → List ℤ → Read → Answer
 answerTo l ss ts (read.Event e) = replied (stepOn l ss ts e .reply)
-answerTo l ss ts (read.Report code) = reported code (reportOn ss ts code)
-answerTo l ss ts read.Other = refusedText (length ss) ts
+answerTo l ss ts (read.Report code) = otherAnswer ss ts (read.Report code)
+answerTo l ss ts read.Other = otherAnswer ss ts read.Other
 
 -- only an event changes the line, the records and the tallies
 unfoldable pub lineAfter : Line → List Settings → List ℤ → Read → Line

@@ -16,7 +16,8 @@ use Rattle.event.specs.declared.Event.{Event}
 use Rattle.event.specs.declared.Event.the-variants.{Sample, Run, Stop, Emergency, Recall, Cancel, ClearCode, ClearAll, ErrorReset, NoOperation, Setup, Store}
 use Rattle.event.proofs.Event as event
 use Rattle.line.specs.Refusal.{refusalOf}
-use Rattle.line.specs.Step.{accepted, stepOf, stored, activeOf, settingsAfter, storesNone, stores, storingFor}
+use Rattle.line.specs.Step.{accepted, stepOf, stored, activeOf, settingsAfter}
+use Rattle.line.specs.Storing.{storesNone, stores, storingFor}
 use Rattle.line.specs.declared.line.Line.{Line}
 use Rattle.line.specs.declared.reply.Reply.{Reply}
 use Rattle.line.specs.declared.reply.Reply.the-variants.{Refused, Done}

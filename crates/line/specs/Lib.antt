@@ -7,3 +7,4 @@ pub mod Command
 pub mod Tallying
 pub mod Refusal
 pub mod Step
+pub mod Storing

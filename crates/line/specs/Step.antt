@@ -16,9 +16,7 @@ use Rattle.line.specs.Command.{ran, stopping, alarmed}
 use Rattle.line.specs.Tallying.{Out, untallied, recorded, cancelled, recalled, clearedOne, clearedAll}
 use Rattle.line.specs.Refusal.{refusalOf, inputOf}
 use Rattle.line.specs.declared.line.Line.{Line}
-use Rattle.line.specs.declared.reply.Reply.{Reply}
-use Rattle.line.specs.declared.reply.Reply.the-variants.{Refused, Done}
-use Rattle.line.specs.declared.storing.Storing.{Storing}
+use Rattle.line.specs.declared.reply.Reply.the-variants.{Refused}
 
 -- a is the active code's record
 unfoldable pub accepted : Line → Settings → List ℤ → Event → Out
@@ -72,27 +70,3 @@ stepOn l ss ts e = stepOf l (length ss) (activeOf l ss) ts e
 abbrev pub settingsAfter : Line → List Settings → List ℤ → Event → List Settings
 settingsAfter l ss ts e =
     if eqb (refusalOf l (length ss) (activeOf l ss) ts e) 0 then stored ss e else ss
-
--- at the count, past the end, nothing is stored
-abbrev pub storesNone : ℕ → Settings → Storing
-storesNone count a = record { code = count; settings = a }
-
--- which code's record an accepted event replaces, and by which, where count records are lent and a is the active one
-unfoldable pub stores : ℕ → Settings → Event → Storing
-stores count a (Sample s) = storesNone count a
-stores count a Run = storesNone count a
-stores count a Stop = storesNone count a
-stores count a Emergency = storesNone count a
-stores count a (Recall c) = storesNone count a
-stores count a Cancel = storesNone count a
-stores count a (ClearCode c) = storesNone count a
-stores count a ClearAll = storesNone count a
-stores count a ErrorReset = storesNone count a
-stores count a NoOperation = storesNone count a
-stores count a (Setup s) = storesNone count a
-stores count a (Store c s) = record { code = c; settings = s }
-
--- told from the event and its reply
-unfoldable pub storingFor : ℕ → Settings → Event → Reply → Storing
-storingFor count a e (Refused number input) = storesNone count a
-storingFor count a e (Done d) = stores count a e

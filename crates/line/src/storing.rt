@@ -1,15 +1,15 @@
 // Which settings record an event replaces.
 ghost use mathlib.Core.Path.{_≡_};
-ghost use Rattle.line.specs.Step.{stores, storingFor};
+ghost use Rattle.line.specs.Storing.{stores, storingFor};
 use crate::reply::Reply;
 use crate::reply::Step;
 use event::Event;
 use settings::Settings;
 
 // The record of `code` becomes `settings`; a code past the end stands for none.
-pub struct Storing {
-    pub code: u64,
-    pub settings: Settings,
+pub(crate) struct Storing {
+    pub(crate) code: u64,
+    pub(crate) settings: Settings,
 }
 
 // Of `count` lent records an accepted event replaces a store's, else none.

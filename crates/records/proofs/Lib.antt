@@ -5,3 +5,5 @@ pub mod Records
 pub mod Clauses
 pub mod Lending
 pub mod Parts
+pub mod Fields
+pub mod Leaving

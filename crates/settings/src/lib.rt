@@ -1,4 +1,4 @@
-// A code's settings: its limits, the tare, and the grade of a net weight under them; and the lent memory of them.
+// A code's settings: its limits, the tare, and the grade of a net weight under them.
 ghost use mathlib.Core.Path.{_≡_};
 ghost use Rattle.settings.specs.Settings.{isLoad, recordRanged, limitsOrdered, recordFit, blank};
 ghost use Rattle.settings.specs.Grade.{gradeOf};

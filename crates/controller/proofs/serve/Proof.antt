@@ -82,8 +82,8 @@ use Rattle.controller.proofs.not_event.Symbol.{name as #not-event}
 use Rattle.controller.proofs.not_event.Met as not-event-thm
 use Rattle.records.proofs.Lending.{ref, tyOf, recell, use4, use6, let-go, lend-shr, back-shr}
 use Rattle.records.proofs.Clauses.{says4}
-use Rattle.controller.proofs.Leaving.{locals-at, leaves}
-use Rattle.controller.proofs.Fields.{Field, field-of, field-place, field-cell}
+use Rattle.records.proofs.Leaving.{locals-at, leaves}
+use Rattle.records.proofs.Fields.{Field, field-of, field-place, field-cell}
 use Rattle.controller.proofs.Variants.{After, AsEvent, AsOther, after-step, event-or}
 use Rattle.controller.proofs.Memories.{Apply, to-apply, asks-apply, ended-apply}
 use Rattle.controller.proofs.Texts.{ReadLine, to-read, asks-read, ended-read}

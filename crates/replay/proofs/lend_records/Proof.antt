@@ -1,4 +1,4 @@
--- `lend_records` meets its contract: a walk of its MIR, by hand. The records are copied into a local, which is lent to `Line::apply` for a lifetime of the call, comes back, and goes into the result (`Owned.antt` of `settings`). The tallies go to `apply` for good.
+-- `lend_records` meets its contract: a walk of its MIR, by hand. The records are copied into a local, which is lent to `Line::apply` for a lifetime of the call, comes back, and goes into the result (`Owned.antt` of `records`). The tallies go to `apply` for good.
 -- Of `apply` only the contract is known.
 -- Assumes nothing.
 use mathlib.Core.Path.{_≡_, refl, _∙_, ap, subst}

@@ -67,7 +67,7 @@ use Rattle.checkweigher.proofs.block.next.Symbol.{name as #next}
 use Rattle.checkweigher.proofs.block.next.Met as next-thm
 use Rattle.records.proofs.Lending.{ref, recell, settles-at, by-cases, tyOf, use4, use8, lend-mut, back-mut, lend-shr, back-shr}
 use Rattle.records.proofs.Parts.{PartOwn, part-of}
-use Rattle.controller.proofs.Leaving.{locals-at, leaves}
+use Rattle.records.proofs.Leaving.{locals-at, leaves}
 use Rattle.checkweigher.proofs.Sessions.{sessionVal, Whole, session-is, whole-of}
 use Rattle.checkweigher.proofs.Lines.{Serve, to-serve, asks-serve, ended-serve, Next, to-next, asks-next, ended-next}
 use Rattle.checkweigher.proofs.block.serve_lines.Key.{name as #f}

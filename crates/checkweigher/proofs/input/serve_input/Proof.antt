@@ -7,11 +7,11 @@ use Rattle.checkweigher.proofs.input.serve_input.Statement.{statement}
 use Rattle.checkweigher.proofs.input.serve_input.Tie as tie
 
 abbrev Inv-loop : tie.InvT-loop
-Inv-loop input₀ out₀ tallies₀ plant₀ held₀ reads₀ input out tallies plant held reads =
+Inv-loop input₀ out₀ tallies₀ line₀ settings₀ held₀ reads₀ input out tallies line settings held reads =
     (length input ≡ 65536) × (length out ≡ 65536) × (length tallies ≡ 1300) × (held ≤ 121)
 
 abbrev μ-loop : tie.MeasureT-loop
-μ-loop input₀ out₀ tallies₀ plant₀ held₀ reads₀ input out tallies plant held reads = reads
+μ-loop input₀ out₀ tallies₀ line₀ settings₀ held₀ reads₀ input out tallies line settings held reads = reads
 
 large-buffer-requires : tie.Need-large-buffer-requires Inv-loop μ-loop
 large-buffer-requires c κs = search needs
@@ -21,6 +21,9 @@ large-buffer-requires-2 c κs = search needs
 
 fresh-requires : tie.Need-fresh-requires Inv-loop μ-loop
 fresh-requires c κs = search needs
+
+blank-requires : tie.Need-blank-requires Inv-loop μ-loop
+blank-requires c κs = search needs
 
 loop-holds : tie.Need-loop-holds Inv-loop μ-loop
 loop-holds c = search needs
@@ -91,6 +94,7 @@ serve-input-spec =
     large-buffer-requires
     large-buffer-requires-2
     fresh-requires
+    blank-requires
     loop-holds
     slice-aggregate-read-behind
     read-behind-requires

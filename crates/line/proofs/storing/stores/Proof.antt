@@ -1,7 +1,7 @@
 -- `stores` tells a store from the other kinds. Assumes nothing.
 use borrow.Author.Needs.{needs}
 use Rattle.line.proofs.Stores.{none-stored}
-use Rattle.line.specs.Step.{stores}
+use Rattle.line.specs.Storing.{stores}
 use Rattle.line.proofs.storing.stores.Statement.{statement}
 use Rattle.line.proofs.storing.stores.Tie as tie
 

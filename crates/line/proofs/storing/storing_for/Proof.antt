@@ -1,6 +1,6 @@
 -- `storing_for` stores nothing of a refused event. Assumes nothing.
 use borrow.Author.Needs.{needs}
-use Rattle.line.specs.Step.{storingFor}
+use Rattle.line.specs.Storing.{storingFor}
 use Rattle.line.proofs.storing.storing_for.Statement.{statement}
 use Rattle.line.proofs.storing.storing_for.Tie as tie
 

@@ -1,9 +1,10 @@
--- `Line::apply` meets its contract: a walk of its MIR, by hand. The records are lent to `records::read` and `records::write` and come back after each (`Records.antt` of `settings`); the tallies go to `step` for good.
+-- `Line::apply` meets its contract: a walk of its MIR, by hand. The records are lent to `records::read` and `records::write` and come back after each (`Records.antt` of `records`); the tallies go to `step` for good.
 -- Of the callees only the contracts are known, so the proof does not change with what `step` does.
 -- Assumes nothing.
 use mathlib.Core.Path.{_≡_, refl, _∙_, ap, subst}
 use Prim.Native.Nat.{ℕ, _<_, _^_}
 use mathlib.Core.List.{List, [], _∷_}
+use mathlib.Core.Option.{some as some-of}
 use lib.Dec.{T as Holds}
 use lib.IntN.{ℤ}
 use lib.ListN.{length, getD, length-set}
@@ -20,7 +21,7 @@ use contract.Monad.{Fun, fact}
 use contract.Running.{givenOf, tables, tablesOf}
 use types.Kit.{Given, ‵, raw, given, _⊛_, ⋆, some, later, _$_, _∵_, !, qed, by, move, keep, drop, use0, use1, use2, split, join, pick, learn, check, rewrite, fsplit, fjoin, feqL, suffices, frame, await, updating, now as at-once, show, done}
 use types.Part.{agg, whole, sub, look-in}
-use types.Run.{look, init, forget, stop, hop, fld, from, load, addr, of-opd, and-then, no-more, assigns, land, returns, enter, alloc1, alloc0, params1, pass1, pass0, free1, free0}
+use types.Run.{look, init, stop, hop, fld, from, load, addr, of-opd, and-then, no-more, assigns, land, returns, enter, alloc1, alloc0, params1, pass1, pass0}
 use sound.WpLaws.{FmC, fmOf, WpFn-mono}
 use denote.RattleType.{owns}
 use denote.Laws.{Is, shows}
@@ -46,6 +47,7 @@ use Rattle.settings.proofs.Settings as T
 use Rattle.settings.proofs.Settings.Laws as T′
 use Rattle.records.proofs.Loans.{lands-at}
 use Rattle.records.proofs.Clauses.{says3}
+use Rattle.records.proofs.Leaving.{leaves}
 use Rattle.records.proofs.Records.{R, mach, Get, Set, gets, sets}
 use Rattle.records.proofs.read.Symbol as get-def
 use Rattle.records.proofs.read.Symbol.{name as #get}
@@ -57,7 +59,8 @@ use Rattle.event.specs.declared.Event.{Event}
 use Rattle.event.proofs.Event as E
 use Rattle.event.proofs.Event.Laws as E′
 use Rattle.line.specs.Tallying.{stepIn}
-use Rattle.line.specs.Step.{stepOf, settingsAfter, storingFor}
+use Rattle.line.specs.Step.{stepOf, settingsAfter}
+use Rattle.line.specs.Storing.{storingFor}
 use Rattle.line.specs.declared.line.Line.{Line}
 use Rattle.line.specs.declared.reply.Step.{Step}
 use Rattle.line.specs.declared.storing.Storing.{Storing}
@@ -256,9 +259,7 @@ module _ {M : Type 1} (𝓤 : URA M) (H : Heap 𝓤) (A : Atoms 𝓤) (W : Given
         land ! (from ! (stop !)) (init ! 8 refl (tt, tt)) $
         assigns ! (of-opd ! (load ! (from ! (stop !)) (look ! 22 refl))) (from ! (stop !)) (init ! 36 refl (step-typed r u r-is)) $
         returns ! (look ! 36 refl) $
-        forget ! 4 refl $ forget ! 6 refl $ forget ! 8 refl $ forget ! 10 refl $ forget ! 12 refl $ forget ! 14 refl $ forget ! 16 refl $ forget ! 18 refl $ forget ! 20 refl $ forget ! 22 refl $ forget ! 24 refl $ forget ! 26 refl $ forget ! 28 refl $ forget ! 30 refl $ forget ! 32 refl $ forget ! 34 refl $ forget ! 36 refl $
-        move ! (36 ∷ 37 ∷ []) $ free1 ! $ move ! (34 ∷ 35 ∷ []) $ free1 ! $ move ! (32 ∷ 33 ∷ []) $ free1 ! $ move ! (30 ∷ 31 ∷ []) $ free1 ! $ move ! (28 ∷ 29 ∷ []) $ free1 ! $ move ! (26 ∷ 27 ∷ []) $ free1 ! $ move ! (24 ∷ 25 ∷ []) $ free1 ! $ move ! (22 ∷ 23 ∷ []) $ free1 ! $ move ! (20 ∷ 21 ∷ []) $ free1 ! $
-        move ! (18 ∷ 19 ∷ []) $ free1 ! $ move ! (16 ∷ 17 ∷ []) $ free1 ! $ move ! (14 ∷ 15 ∷ []) $ free1 ! $ move ! (12 ∷ 13 ∷ []) $ free1 ! $ move ! (10 ∷ 11 ∷ []) $ free1 ! $ move ! (8 ∷ 9 ∷ []) $ free1 ! $ move ! (6 ∷ 7 ∷ []) $ free1 ! $ move ! (4 ∷ 5 ∷ []) $ free1 ! $ free0 ! $
+        move ! (36 ∷ 37 ∷ 34 ∷ 35 ∷ 32 ∷ 33 ∷ 30 ∷ 31 ∷ 28 ∷ 29 ∷ 26 ∷ 27 ∷ 24 ∷ 25 ∷ 22 ∷ 23 ∷ 20 ∷ 21 ∷ 18 ∷ 19 ∷ 16 ∷ 17 ∷ 14 ∷ 15 ∷ 12 ∷ 13 ∷ 10 ∷ 11 ∷ 8 ∷ 9 ∷ 6 ∷ 7 ∷ 4 ∷ 5 ∷ []) $ leaves ! (some-of _ ∷ some-of _ ∷ some-of _ ∷ some-of _ ∷ some-of _ ∷ some-of _ ∷ some-of _ ∷ some-of _ ∷ some-of _ ∷ some-of _ ∷ some-of _ ∷ some-of _ ∷ some-of _ ∷ some-of _ ∷ some-of _ ∷ some-of _ ∷ some-of _ ∷ []) $
         keep ! (0 ∷ 1 ∷ 2 ∷ 3 ∷ []) $ by ! (exits r u r-is e l))))))))))))))))))))))))))))
 
 module _ {M : Type 1} (𝓤 : URA M) (H : Heap 𝓤) (A : Atoms 𝓤) (W : Given 𝓤 H A) (mem : Memory → SProp 𝓤) (run : Routine → Fun 𝓤) where

@@ -1,4 +1,4 @@
--- `serve_from` meets its contract: a walk of its MIR, by hand. The array is copied into a local, which is lent to `serve_lines` as a `&mut [Settings]` for a lifetime of the call, and comes back (`Owned.antt` of `settings`). The tallies and the output go to `serve_lines` for good.
+-- `serve_block` meets its contract: a walk of its MIR, by hand. The array is copied into a local, which is lent to `serve_lines` as a `&mut [Settings]` for a lifetime of the call, and comes back (`Owned.antt` of `records`). The tallies and the output go to `serve_lines` for good.
 -- Of the callees only the contracts are known. The machine values of the line and the sessions are variables, so that the terms stay small.
 -- Assumes nothing.
 use mathlib.Core.Path.{_≡_, refl, sym, subst}
@@ -66,13 +66,13 @@ use Rattle.checkweigher.proofs.block.rest.Symbol as rest-def
 use Rattle.checkweigher.proofs.block.rest.Symbol.{name as #rest}
 use Rattle.checkweigher.proofs.block.rest.Met as rest-thm
 use Rattle.records.proofs.Lending.{ref, tyOf, use8}
-use Rattle.controller.proofs.Leaving.{leaves}
+use Rattle.records.proofs.Leaving.{leaves}
 use Rattle.checkweigher.proofs.Blocks.{Begin, to-begin, asks-begin, ended-begin, Lines, to-lines, asks-lines, ended-lines, Rest, to-rest, asks-rest, ended-rest}
-use Rattle.checkweigher.proofs.block.serve_from.Key.{name as #f}
-use Rattle.checkweigher.proofs.block.serve_from as f
-use Rattle.checkweigher.proofs.block.serve_from.Statement as stated
-use Rattle.checkweigher.proofs.block.serve_from.Code as code
-use Rattle.checkweigher.proofs.block.serve_from.Code.Mir as Mir
+use Rattle.checkweigher.proofs.block.serve_block.Key.{name as #f}
+use Rattle.checkweigher.proofs.block.serve_block as f
+use Rattle.checkweigher.proofs.block.serve_block.Statement as stated
+use Rattle.checkweigher.proofs.block.serve_block.Code as code
+use Rattle.checkweigher.proofs.block.serve_block.Code.Mir as Mir
 
 abbrev R : RattleType
 R = T.the-row
@@ -223,9 +223,9 @@ meets 𝓤 H A W mem run 𝓣 k₁ k₂ k₃ =
     (goes-none 𝓤 H A W 3 (λ _. L.the-row) yes (λ κs x f. refl), (goes-none 𝓤 H A W 3 (λ _. Array R 100) yes (λ κs x f. refl), (goes-gave-slice 𝓤 H A W 3 0 tt (plain (λ _. i64)), (goes-none-slice 𝓤 H A W 3 (1 ∷ []) tt (plain (λ _. u8)) yes, (goes-gave-slice 𝓤 H A W 3 2 tt (plain (λ _. u8)), tt)))))
     (f.clauses 𝓤 H A mem run) (WpFn 𝓤 H (𝓣 .C) (𝓣 .Λ) code.function) (WpFn-mono 𝓤 H (W .laws) 𝓣 code.function) (walks 𝓤 H A W mem run (𝓣 .C) (𝓣 .Λ) (fmOf 𝓤 H (W .laws) 𝓣) k₁ k₂ k₃)
 
-pub serve-from-spec : {M : Type 1} → stated.statement M
+pub serve-block-spec : {M : Type 1} → stated.statement M
 unfolding code.routine tablesOf
-serve-from-spec 𝓤 H 𝓜 𝓖 𝓡 =
+serve-block-spec 𝓤 H 𝓜 𝓖 𝓡 =
     entered 𝓤 H (tripleOf 𝓤 H (𝓖 .A) f.signature (f.spec 𝓤 H (𝓖 .A) (𝓜 .mem) (𝓡 .run)))
     (tables 𝓤 H 𝓜 𝓡 code.env .C) (tables 𝓤 H 𝓜 𝓡 code.env .Λ) #f code.function (code.unfolded 𝓤 H 𝓜 𝓡)
     (meets 𝓤 H (𝓖 .A) (givenOf 𝓤 H 𝓜 𝓖) (𝓜 .mem) (𝓡 .run) (tablesOf 𝓤 H 𝓜 (tables 𝓤 H 𝓜 𝓡 code.env))
