@@ -1,7 +1,7 @@
 -- Demand 3: what holds of a fresh line and memory is kept by every event, so it holds after every list. Assumes nothing.
 use mathlib.Core.Path.{_≡_, refl, sym, subst, _∙_}
 use mathlib.Core.Logic.{_≢_}
-use mathlib.Core.Bool.{Bool, true, false, not, or-true}
+use mathlib.Core.Bool.{true, not, or-true}
 use mathlib.Core.List.{List, [], _∷_}
 use Prim.Native.Nat.{ℕ, _+_, _*_, _≤_}
 use native.Mathlib.Omega.{arith}
@@ -19,20 +19,16 @@ use Rattle.event.specs.Setup.{setupRanged, edgeAgrees}
 use Rattle.event.specs.Event.{eventRanged, eventAgrees}
 use Rattle.event.specs.declared.Event.{Event}
 use Rattle.event.specs.declared.Event.the-variants.{Sample, Run, Stop, Emergency, Recall, Cancel, ClearCode, ClearAll, ErrorReset, NoOperation, Setup, Store}
-use Rattle.tally.specs.Tally.{hasRoom}
-use Rattle.tallies.specs.Memory.{tallyAt, withTally}
-use Rattle.line.specs.Line.{freshLine, inHand, busy, withUndo}
+use Rattle.line.specs.Line.{freshLine, inHand, busy}
 use Rattle.line.specs.Fit.{lastFit, sensorFit, errorKnown, statusFit, itemFit, undoFit}
-use Rattle.line.specs.Effect.{bit, plain, replied}
+use Rattle.line.specs.Effect.{bit}
 use Rattle.line.specs.Refusal.{readsRecord, readsTally, memorySound, statusWrong, runUnsafe, runOccupied, nothingToCancel, noChance, refusalOf}
-use Rattle.line.specs.Tallying.{Out, isVerdict, untallied, tallied, passedOver, noted, recorded, cancelled}
-use Rattle.line.specs.Sample.{sampled}
+use Rattle.line.specs.Tallying.{Out, tallied, noted, cancelled}
 use Rattle.line.proofs.Done.{isDone, accepted-done}
 use Rattle.line.specs.Step.{accepted, refused, stepOf, stored, activeOf, settingsAfter}
 use Rattle.line.specs.declared.line.Undo.{Undo}
 use Rattle.line.specs.declared.line.Undo.the-variants.{Nothing, Kept}
 use Rattle.line.specs.declared.line.Line.{Line}
-use Rattle.line.specs.declared.effect.Effect.{Effect}
 use Rattle.line.specs.declared.reply.Reply.{Reply}
 use Rattle.line.specs.declared.reply.Reply.the-variants.{Refused, Done}
 use Rattle.line.proofs.Facts.{FitLine, tells-fit}

@@ -5,8 +5,8 @@
 use Prim.Native.Nat.{ℕ, _+_, _-_, _≤_}
 use native.Mathlib.Omega.{arith}
 use mathlib.Core.Bool.{Bool, true, false}
-use mathlib.Core.List.{List, [], _∷_, _++_, append-nil}
-use mathlib.Core.Path.{_≡_, refl, sym, _∙_, ap}
+use mathlib.Core.List.{List, [], _++_, append-nil}
+use mathlib.Core.Path.{_≡_, sym, _∙_, ap}
 use lib.Dec.{leb}
 use lib.ListN.{length, take, drop, take-append-drop, drop-of-length-le, length-drop, length-append}
 use borrow.Rule.Slice.PartAt.{part-to-end}

@@ -16,7 +16,7 @@ use Rattle.event.specs.Event.{eventRanged, eventAgrees}
 use Rattle.event.specs.declared.Event.{Event}
 use Rattle.event.specs.declared.Event.the-variants.{Sample, Run, Stop, Emergency, Recall, Cancel, ClearCode, ClearAll, ErrorReset, NoOperation, Setup, Store}
 use Rattle.tallies.specs.Memory.{talliesLength, tallyAtFit}
-use Rattle.line.specs.Line.{stopped, running, emergency, isRunning}
+use Rattle.line.specs.Line.{stopped, emergency, isRunning}
 use Rattle.line.specs.Fit.{lineFit}
 use Rattle.line.specs.declared.line.Undo.{Undo}
 use Rattle.line.specs.declared.line.Undo.the-variants.{Nothing, Kept}

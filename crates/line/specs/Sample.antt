@@ -12,7 +12,7 @@ use Rattle.device.specs.Sorter.{sorterTicked}
 use Rattle.device.specs.Foreign.{foreignTicked}
 use Rattle.event.specs.declared.Setup.{Setup}
 use Rattle.event.specs.declared.Sample.{Sample}
-use Rattle.line.specs.Line.{stopped, running, paused, emergency, isRunning, inHand, withStatus, withSensed, withForeign, withItem, withSorter}
+use Rattle.line.specs.Line.{stopped, paused, emergency, isRunning, inHand, withStatus, withSensed, withForeign, withItem, withSorter}
 use Rattle.line.specs.Effect.{plain, halting}
 use Rattle.line.specs.Verdict.{given, judged}
 use Rattle.line.specs.declared.item.Item.{Item}

@@ -1,4 +1,4 @@
-// How verdicts, cancel and the clears change the tallies and the chance to cancel.
+// How a verdict changes the tallies and the chance to cancel.
 ghost use mathlib.Core.Path.{_≡_};
 ghost use mathlib.Core.Bool.{true};
 ghost use mathlib.Core.List.{[]};
@@ -7,11 +7,9 @@ ghost use Rattle.weight.specs.Choice.{within};
 ghost use Rattle.weight.specs.Weight.{isWeight};
 ghost use Rattle.event.specs.Event.{isCode};
 ghost use Rattle.tally.specs.Tally.{tallyFit};
-ghost use Rattle.tallies.specs.Memory.{talliesLength, tallyAt, tallyAtFit};
-ghost use Rattle.line.specs.Fit.{undoFit};
-ghost use Rattle.line.specs.Tallying.{stepIn, untallied, noted, recorded, cancelled, codeCleared, clearedOne, clearedAll};
+ghost use Rattle.tallies.specs.Memory.{talliesLength, tallyAtFit};
+ghost use Rattle.line.specs.Tallying.{stepIn, untallied, noted, recorded};
 use crate::effect::Effect;
-use crate::line::Line;
 use crate::line::Undo;
 use crate::reply::Step;
 use tallies::Lent;

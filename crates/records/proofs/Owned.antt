@@ -3,7 +3,7 @@
 --     arr-lends        the local's cell  ⊢ ⇛ ∃ δ. own (the `&κ mut [T]` at the local) ∗ the lender's part
 --     arr-back         [†κ] ∗ the lender's part ∗ finally δ zs  ⊢ ⇛ the local's cell, at the machine value of zs, and that it is one
 -- Assumes `Given`.
-use mathlib.Core.Path.{_≡_, refl, sym, _∙_, ap, subst}
+use mathlib.Core.Path.{_≡_, refl, sym, _∙_, subst}
 use Prim.Native.Nat.{ℕ}
 use mathlib.Core.List.{List, [], _∷_, map}
 use lib.ListN.{length, length-map}
@@ -15,7 +15,7 @@ use base.Logic.{ent, sep, ex, guard}
 use base.Fml.{Lft, GName, fsep, fat, fdead, flent}
 use prog.Wp.{Heap}
 use ghost.Atoms.{Atoms, sem}
-use types.Kit.{Given, ‵, _⊛_, some, later, _$_, _∵_, !, qed, move, use1, use3, split, pick, rewrite, check, fsplit, fjoin, fpick, fpack, feqL, feqI, frame, await, updating, now as at-once, show, done}
+use types.Kit.{Given, ‵, _⊛_, some, later, _$_, _∵_, !, qed, move, use1, use3, split, pick, rewrite, check, fsplit, fjoin, fpick, fpack, feqL, feqI, await, updating, now as at-once, show, done}
 use types.SemTy.{cells, Arr}
 use types.Share.{arr-parts}
 use denote.RattleType.{RattleType}

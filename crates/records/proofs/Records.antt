@@ -4,7 +4,7 @@
 --     sets     `write`: the unit; the slice is at `set ys i d`
 -- Of the two only the contracts are known.
 -- Assumes `Given`, and that the table of calls is monotone under a frame.
-use mathlib.Core.Path.{_≡_, refl, sym, _∙_, ap, subst}
+use mathlib.Core.Path.{_≡_, refl, _∙_, ap, subst}
 use Prim.Native.Nat.{ℕ, _<_, _^_}
 use mathlib.Core.List.{List, [], _∷_}
 use lib.ListN.{length, getD, set, length-set}

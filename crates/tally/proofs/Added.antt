@@ -11,7 +11,7 @@ use Rattle.weight.specs.Choice.{if_then_else_, within}
 use Rattle.weight.specs.Weight.{isWeight}
 use Rattle.weight.proofs.Tests.{both, and-intro, if-ind}
 use Rattle.weight.proofs.Signed.{abs-add}
-use Rattle.tally.specs.Tally.{graded, total, tallyFit, hasRoom, isGrade, one, largestWith, smallestWith, countedWith, weighedWith, added}
+use Rattle.tally.specs.Tally.{graded, total, tallyFit, hasRoom, isGrade, largestWith, smallestWith, countedWith, weighedWith, added}
 use Rattle.tally.specs.Steps.{noneIsZero}
 use Rattle.tally.specs.declared.tally.Tally.{Tally}
 use Rattle.tally.proofs.Facts.{FitTally, fit-tells, square-le}

@@ -2,12 +2,10 @@
 -- once each of them is small.
 use Prim.Native.Nat.{_*_, _≤_}
 use mathlib.Core.Bool.{Bool, true, _&&_}
-use mathlib.Core.List.{List}
 use lib.Dec.{leb, eqb}
-use lib.IntN.{ℤ, natAbs}
+use lib.IntN.{natAbs}
 use Rattle.weight.specs.Choice.{if_then_else_}
 use Rattle.tally.specs.declared.tally.Tally.{Tally}
-use Rattle.tally.specs.Tally.{tallyFit}
 
 -- each count and n is small, as the code tests it
 abbrev pub smallCounts : Tally → Bool

@@ -1,7 +1,7 @@
 -- `lend_records` meets its contract: a walk of its MIR, by hand. The records are copied into a local, which is lent to `Line::apply` for a lifetime of the call, comes back, and goes into the result (`Owned.antt` of `records`). The tallies go to `apply` for good.
 -- Of `apply` only the contract is known.
 -- Assumes nothing.
-use mathlib.Core.Path.{_≡_, refl, _∙_, ap, subst}
+use mathlib.Core.Path.{_≡_, refl, ap, subst}
 use Prim.Native.Nat.{ℕ}
 use mathlib.Core.List.{List, [], _∷_, map}
 use lib.IntN.{ℤ}
@@ -33,7 +33,7 @@ use denote.Ref.{RefT}
 use denote.Slice.{sliceVal, MutSlice, Room, finally, slice-vals, mut-slice-tells}
 use denote.Lend.{Held}
 use denote.Signature.{plain}
-use denote.Steps.{only, owned, facts, heard, nothing}
+use denote.Steps.{owned, facts, heard, nothing}
 use denote.Struct.Declared.{shape}
 use denote.Struct.Struct.{Struct}
 use denote.Struct.Laws as LL
@@ -49,7 +49,6 @@ use denote.Exit.{yes}
 use Rattle.settings.specs.declared.Settings.{Settings}
 use Rattle.settings.proofs.Settings as T
 use Rattle.settings.proofs.Settings.Laws as T′
-use Rattle.records.proofs.Loans.{lands-at}
 use Rattle.records.proofs.Clauses.{says2}
 use Rattle.records.proofs.Owned.{array-out, arr-lends, arr-back}
 use Rattle.event.specs.declared.Event.{Event}

@@ -1,15 +1,11 @@
 -- `with_sign` gives q the sign of z: below 0 it is -1 less q - 1, since q itself may be 2^63. Assumes nothing.
 use borrow.Author.Needs.{needs}
-use mathlib.Core.Path.{_≡_, sym, _∙_}
-use Prim.Native.Nat.{_-_, _+_, _≤_, _<_, _^_}
-use native.Mathlib.Nat.{eq-zero-or-pos}
+use mathlib.Core.Path.{sym, _∙_}
+use Prim.Native.Nat.{_-_, _≤_, _<_, _^_}
 use native.Mathlib.Omega.{arith}
 use mir.Facts.{toZ-ofZ}
-use mir.Syntax.{w64}
-use mir.Val.{SFits}
-use lib.IntN.{ℤ, pos, negℤ, natAbs}
-use lib.Signed.{mag}
-use Rattle.weight.proofs.Signed.{back, toZ-small, lit-le, pos-abs, abs-neg, as-pos, as-neg, below-zero, neg-fits}
+use lib.IntN.{pos, natAbs}
+use Rattle.weight.proofs.Signed.{toZ-small, lit-le, pos-abs, abs-neg, as-pos, as-neg, below-zero, neg-fits}
 use Rattle.weight.proofs.with_sign.Statement.{statement}
 use Rattle.weight.proofs.with_sign.Tie as tie
 

@@ -1,7 +1,7 @@
 -- `put_reply` writes a reply's line behind what stands in the buffer. Assumes nothing.
 use borrow.Author.Needs.{needs}
 use native.Mathlib.Omega.{arith}
-use mathlib.Core.Path.{refl, sym, _∙_, ap}
+use mathlib.Core.Path.{refl}
 use Prim.Native.Nat.{_<_, _^_}
 use lib.ListN.{length}
 use Rattle.controller.specs.Answer.{replied}

@@ -59,7 +59,7 @@ use Rattle.event.specs.declared.Event.{Event}
 use Rattle.event.proofs.Event as E
 use Rattle.event.proofs.Event.Laws as E′
 use Rattle.line.specs.Tallying.{stepIn}
-use Rattle.line.specs.Step.{stepOf, settingsAfter}
+use Rattle.line.specs.Step.{stepOf}
 use Rattle.line.specs.Storing.{storingFor}
 use Rattle.line.specs.declared.line.Line.{Line}
 use Rattle.line.specs.declared.reply.Step.{Step}
