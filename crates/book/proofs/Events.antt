@@ -23,11 +23,12 @@ use Rattle.line.specs.Fit.{errorKnown, statusFit, itemFit}
 use Rattle.line.specs.Effect.{plain, halting, replied}
 use Rattle.line.specs.Sample.{sampled}
 use Rattle.line.specs.Command.{ran, stopping, alarmed}
-use Rattle.line.specs.Refusal.{statusWrong, nothingToCancel, noChance}
+use Rattle.line.specs.Refusal.{statusWrong, nothingToCancel}
+use Rattle.undo.specs.Undo.{noChance, restored}
 use Rattle.line.specs.Tallying.{isVerdict, untallied, cancelled, recalled, codeCleared, clearedOne, clearedAll}
 use Rattle.line.specs.Step.{accepted}
-use Rattle.line.specs.declared.line.Undo.{Undo}
-use Rattle.line.specs.declared.line.Undo.the-variants.{Nothing, Kept}
+use Rattle.undo.specs.declared.Undo.{Undo}
+use Rattle.undo.specs.declared.Undo.the-variants.{Nothing, Kept}
 use Rattle.line.specs.declared.item.Item.{Item}
 use Rattle.line.specs.declared.item.Item.the-variants.{None, Waiting, Averaging}
 use Rattle.line.specs.declared.line.Line.{Line}
@@ -150,8 +151,9 @@ last-off (v ∷ p) g = tail (g .fine)
     tail : Fine (v ∷ p) → Page p
     tail (more h f) = record { fine = f; few = omega (arith, g .few) }
 
-cancel-goes : (l : Line) (ts : List ℤ) (f : Pages) (u : Undo) → l .undo ≡ u → noChance u ≡ false → Given l ts f → Goes l f Cancel (cancelled l ts u)
-unfolding cancelled book.commanded
+cancel-goes : (l : Line) (ts : List ℤ) (f : Pages) (u : Undo) → l .undo ≡ u → noChance u ≡ false → Given l ts f
+    → Goes l f Cancel (untallied (plain (withUndo l Nothing)) (restored ts (l .code) u))
+unfolding book.commanded
 cancel-goes l ts f Nothing e h g = absurd (subst T h tt)
 cancel-goes l ts f (Kept t) e h g =
     let c = l .code in

@@ -20,14 +20,15 @@ use Rattle.event.specs.Event.{eventRanged, eventAgrees}
 use Rattle.event.specs.declared.Event.{Event}
 use Rattle.event.specs.declared.Event.the-variants.{Sample, Run, Stop, Emergency, Recall, Cancel, ClearCode, ClearAll, ErrorReset, NoOperation, Setup, Store}
 use Rattle.line.specs.Line.{freshLine, inHand, busy}
-use Rattle.line.specs.Fit.{lastFit, sensorFit, errorKnown, statusFit, itemFit, undoFit}
+use Rattle.line.specs.Fit.{lastFit, sensorFit, errorKnown, statusFit, itemFit}
+use Rattle.undo.specs.Undo.{undoFit, noChance}
 use Rattle.line.specs.Effect.{bit}
-use Rattle.line.specs.Refusal.{readsRecord, readsTally, memorySound, statusWrong, runUnsafe, runOccupied, nothingToCancel, noChance, refusalOf}
+use Rattle.line.specs.Refusal.{readsRecord, readsTally, memorySound, statusWrong, runUnsafe, runOccupied, nothingToCancel, refusalOf}
 use Rattle.line.specs.Tallying.{Out, tallied, noted, cancelled}
 use Rattle.line.proofs.Done.{isDone, accepted-done}
 use Rattle.line.specs.Step.{accepted, refused, stepOf, stored, activeOf, settingsAfter}
-use Rattle.line.specs.declared.line.Undo.{Undo}
-use Rattle.line.specs.declared.line.Undo.the-variants.{Nothing, Kept}
+use Rattle.undo.specs.declared.Undo.{Undo}
+use Rattle.undo.specs.declared.Undo.the-variants.{Nothing, Kept}
 use Rattle.line.specs.declared.line.Line.{Line}
 use Rattle.line.specs.declared.reply.Reply.{Reply}
 use Rattle.line.specs.declared.reply.Reply.the-variants.{Refused, Done}

@@ -16,11 +16,12 @@ use Rattle.tallies.specs.Memory.{numbers, part, tallyOf, tallyAt, tallyAtFit, w
 use Rattle.tally.specs.declared.tally.Tally.{Tally}
 use Rattle.tallies.proofs.Parts.{length-kept, part-same, part-other, part-zeros, tally-of-numbers, fit-same, fit-other, fit-zeros, length-zeros}
 use Rattle.line.specs.Line.{busy, withUndo}
-use Rattle.line.specs.Fit.{undoFit, statusFit}
+use Rattle.line.specs.Fit.{statusFit}
+use Rattle.undo.specs.Undo.{undoFit}
 use Rattle.line.specs.Effect.{replied}
 use Rattle.line.specs.Tallying.{Out, isVerdict, untallied, tallied, noted, recorded}
-use Rattle.line.specs.declared.line.Undo.{Undo}
-use Rattle.line.specs.declared.line.Undo.the-variants.{Nothing, Kept}
+use Rattle.undo.specs.declared.Undo.{Undo}
+use Rattle.undo.specs.declared.Undo.the-variants.{Nothing, Kept}
 use Rattle.line.specs.declared.line.Line.{Line}
 use Rattle.line.specs.declared.effect.Effect.{Effect}
 use Rattle.line.proofs.Facts.{FitLine}

@@ -18,7 +18,8 @@ use Rattle.event.specs.declared.Sample as sample
 use Rattle.event.specs.declared.Event.the-variants.{Sample, Cancel, ClearCode, ClearAll}
 use Rattle.event.specs.declared.Event.{Event}
 use Rattle.tallies.specs.Memory.{tallyAtFit, talliesLength}
-use Rattle.line.specs.Fit.{lineFit, undoFit}
+use Rattle.line.specs.Fit.{lineFit}
+use Rattle.undo.specs.Undo.{undoFit}
 use Rattle.line.specs.Refusal.{readsRecord, readsTally, memorySound, statusWrong, runUnsafe, runOccupied, nothingToCancel, refusalOf}
 use Rattle.line.specs.declared.line.Line.{Line}
 use Rattle.line.proofs.Facts.{fit-tells}

@@ -15,8 +15,8 @@ use Rattle.line.specs.Sample.{sampled}
 use Rattle.line.specs.Tallying.{Out, isVerdict, untallied, tallied, passedOver, noted, recorded, cancelled}
 use Rattle.line.specs.Step.{accepted}
 use Rattle.line.specs.declared.line.Line.{Line}
-use Rattle.line.specs.declared.line.Undo.{Undo}
-use Rattle.line.specs.declared.line.Undo.the-variants.{Nothing, Kept}
+use Rattle.undo.specs.declared.Undo.{Undo}
+use Rattle.undo.specs.declared.Undo.the-variants.{Nothing, Kept}
 use Rattle.line.specs.declared.effect.Effect.{Effect}
 use Rattle.line.specs.declared.reply.Reply.{Reply}
 use Rattle.line.specs.declared.reply.Reply.the-variants.{Refused, Done}
@@ -39,11 +39,6 @@ recorded-done x ts =
     (λ _. if-ind NoRefusal (hasRoom (tallyAt ts (x .line .code))) (tallied x ts (tallyAt ts (x .line .code))) (passedOver x ts) (λ _. refl) (λ _. refl))
     (λ _. refl)
 
-cancelled-done : (l : Line) (ts : List ℤ) (u : Undo) → NoRefusal (cancelled l ts u)
-unfolding cancelled
-cancelled-done l ts Nothing = untallied-done (plain l) ts
-cancelled-done l ts (Kept t) = untallied-done (plain (withUndo l Nothing)) (withTally ts (l .code) t)
-
 pub accepted-done : (l : Line) (a : Settings) (ts : List ℤ) (e : Event) → isDone (accepted l a ts e .reply) ≡ true
 unfolding accepted replied
 accepted-done l a ts (Sample s) = recorded-done (sampled l a s) ts
@@ -51,7 +46,7 @@ accepted-done l a ts Run = refl
 accepted-done l a ts Stop = refl
 accepted-done l a ts Emergency = refl
 accepted-done l a ts (Recall c) = refl
-accepted-done l a ts Cancel = cancelled-done l ts (l .undo)
+accepted-done l a ts Cancel = refl
 accepted-done l a ts (ClearCode c) = refl
 accepted-done l a ts ClearAll = refl
 accepted-done l a ts ErrorReset = refl

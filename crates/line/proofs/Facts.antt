@@ -6,7 +6,8 @@ use Rattle.weight.proofs.Tests.{both}
 use Rattle.device.specs.Sorter.{sorterFit}
 use Rattle.event.specs.Setup.{setupFit}
 use Rattle.event.specs.Event.{isCode}
-use Rattle.line.specs.Fit.{lastFit, sensorFit, statusFit, itemFit, undoFit, lineFit}
+use Rattle.line.specs.Fit.{lastFit, sensorFit, statusFit, itemFit, lineFit}
+use Rattle.undo.specs.Undo.{undoFit}
 use Rattle.line.specs.declared.line.Line.{Line}
 
 pub record FitLine (l : Line) : Type 0 where

@@ -10,12 +10,10 @@ use Rattle.device.specs.declared.sensor.Sensor.{Sensor}
 use Rattle.event.specs.Setup.{setupFit}
 use Rattle.event.specs.Event.{isCode}
 use Rattle.event.specs.declared.Setup.{Setup}
-use Rattle.tally.specs.Tally.{tallyFit}
+use Rattle.undo.specs.Undo.{undoFit}
 use Rattle.line.specs.Line.{stopped, paused, emergency, noError, busy}
 use Rattle.line.specs.declared.item.Item.{Item}
 use Rattle.line.specs.declared.item.Item.the-variants.{None, Waiting, Averaging}
-use Rattle.line.specs.declared.line.Undo.{Undo}
-use Rattle.line.specs.declared.line.Undo.the-variants.{Nothing, Kept}
 use Rattle.line.specs.declared.line.Last.{Last}
 use Rattle.line.specs.declared.line.Line.{Line}
 
@@ -36,11 +34,6 @@ unfoldable pub itemFit : Item → Setup → Bool
 itemFit None s = true
 itemFit (Waiting k) s = within 1 (s .tw) k
 itemFit (Averaging k sum) s = within 1 (s .ta) k && leb (natAbs sum) (999999 * (s .ta - k))
-
--- "a kept tally fit"
-unfoldable pub undoFit : Undo → Bool
-undoFit Nothing = true
-undoFit (Kept t) = tallyFit t
 
 -- "error none unless paused, and in status 0 or 3 nothing in hand, queued or on"
 unfoldable pub statusFit : Line → Bool

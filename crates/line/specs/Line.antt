@@ -11,8 +11,8 @@ use Rattle.device.specs.declared.foreign.Foreign.{Foreign}
 use Rattle.event.specs.declared.Setup.{Setup}
 use Rattle.line.specs.declared.item.Item.{Item}
 use Rattle.line.specs.declared.item.Item.the-variants.{None, Waiting, Averaging}
-use Rattle.line.specs.declared.line.Undo.{Undo}
-use Rattle.line.specs.declared.line.Undo.the-variants.{Nothing}
+use Rattle.undo.specs.declared.Undo.{Undo}
+use Rattle.undo.specs.declared.Undo.the-variants.{Nothing}
 use Rattle.line.specs.declared.line.Last.{Last}
 use Rattle.line.specs.declared.line.Line.{Line}
 

@@ -16,10 +16,9 @@ use Rattle.event.specs.Event.{eventRanged, eventAgrees}
 use Rattle.event.specs.declared.Event.{Event}
 use Rattle.event.specs.declared.Event.the-variants.{Sample, Run, Stop, Emergency, Recall, Cancel, ClearCode, ClearAll, ErrorReset, NoOperation, Setup, Store}
 use Rattle.tallies.specs.Memory.{talliesLength, tallyAtFit}
+use Rattle.undo.specs.Undo.{noChance}
 use Rattle.line.specs.Line.{stopped, emergency, isRunning}
 use Rattle.line.specs.Fit.{lineFit}
-use Rattle.line.specs.declared.line.Undo.{Undo}
-use Rattle.line.specs.declared.line.Undo.the-variants.{Nothing, Kept}
 use Rattle.line.specs.declared.line.Line.{Line}
 
 -- "run and sample the active record"
@@ -98,10 +97,6 @@ runUnsafe l e = isRun e && not (eqb (inputOff l) 0)
 -- no. 6 occupied: "run from stopped, last gross above nearzero"
 unfoldable pub runOccupied : Line → Settings → Event → Bool
 runOccupied l a e = isRun e && eqb (l .status) stopped && ltZ (a .nearzero) (l .last .gross)
-
-abbrev pub noChance : Undo → Bool
-noChance Nothing = true
-noChance (Kept t) = false
 
 -- no. 7 nothing: "cancel without its premise"
 unfoldable pub nothingToCancel : Line → Event → Bool

@@ -10,8 +10,8 @@ use Rattle.tallies.specs.Memory.{tallyAt, withTally, zeros, talliesLength}
 use Rattle.tally.specs.declared.tally.Tally.{Tally}
 use Rattle.line.specs.Line.{withCode, withUndo}
 use Rattle.line.specs.Effect.{plain, replied}
-use Rattle.line.specs.declared.line.Undo.{Undo}
-use Rattle.line.specs.declared.line.Undo.the-variants.{Nothing, Kept}
+use Rattle.undo.specs.Undo.{restored}
+use Rattle.undo.specs.declared.Undo.the-variants.{Nothing, Kept}
 use Rattle.line.specs.declared.line.Line.{Line}
 use Rattle.line.specs.declared.effect.Effect.{Effect}
 use Rattle.line.specs.declared.reply.Reply.{Reply}
@@ -57,10 +57,8 @@ recorded e ts =
     if isVerdict (e .outcome) then noted e ts (tallyAt ts (e .line .code)) else untallied e ts
 
 -- "Cancel puts back the active code's tally as before the last verdict."
-unfoldable pub cancelled : Line → List ℤ → Undo → Out
-cancelled l ts (Kept t) =
-    untallied (plain (withUndo l Nothing)) (withTally ts (l .code) t)
-cancelled l ts Nothing = untallied (plain l) ts
+abbrev pub cancelled : Line → List ℤ → Out
+cancelled l ts = untallied (plain (withUndo l Nothing)) (restored ts (l .code) (l .undo))
 
 -- "Recall makes a code active, any status, and ends the chance to cancel, even for the same code."
 abbrev pub recalled : Line → ℕ → Line

@@ -8,7 +8,8 @@ ghost use Rattle.event.specs.Sample.{sampleRanged};
 ghost use Rattle.event.specs.Event.{isCode};
 ghost use Rattle.tallies.specs.Memory.{talliesLength, tallyAtFit};
 ghost use Rattle.line.specs.Line.{noError, withStatus, withSetup};
-ghost use Rattle.line.specs.Fit.{lineFit, undoFit};
+ghost use Rattle.undo.specs.Undo.{undoFit};
+ghost use Rattle.line.specs.Fit.{lineFit};
 ghost use Rattle.line.specs.Effect.{plain};
 ghost use Rattle.line.specs.Sample.{sampled};
 ghost use Rattle.line.specs.Command.{ran, stopping, alarmed};
@@ -17,7 +18,6 @@ ghost use Rattle.line.specs.Refusal.{refusalOf};
 ghost use Rattle.line.specs.Step.{accepted, stepOf, stepOn, settingsAfter};
 use crate::effect::Effect;
 use crate::line::Line;
-use crate::line::Undo;
 use crate::reply::Reply;
 use crate::reply::Step;
 use crate::storing::storing_for;
@@ -26,6 +26,7 @@ use event::Sample;
 use event::Setup;
 use settings::Settings;
 use tally::Tally;
+use undo::Undo;
 
 // What changes neither the line nor a tally, or the line alone.
 impl Line {
@@ -91,14 +92,11 @@ impl Line {
 
     fn cancel(self, tallies: &mut [i64]) -> Step
         requires { ⌜ (isCode (self .code) ≡ true) × (undoFit (self .undo) ≡ true) × (length (now tallies) ≡ talliesLength) ⌝ }
-        ensures answer { λ r. ⌜ r ≡ stepIn (cancelled self (now (tallies .entry)) (self .undo)) ⌝ }
-        ensures memory { λ r. ⌜ now (tallies .exit) ≡ cancelled self (now (tallies .entry)) (self .undo) .tallies ⌝ }
+        ensures answer { λ r. ⌜ r ≡ stepIn (cancelled self (now (tallies .entry))) ⌝ }
+        ensures memory { λ r. ⌜ now (tallies .exit) ≡ cancelled self (now (tallies .entry)) .tallies ⌝ }
     {
         let undo = self.undo;
-        let Undo::Kept(t) = undo else {
-            return self.no_operation();
-        };
-        tallies::write(tallies, self.code, t);
+        undo.put_back(tallies, self.code);
         Effect::plain(self.with_undo(Undo::Nothing)).untallied()
     }
 

@@ -4,9 +4,8 @@ ghost use mathlib.Core.Bool.{true};
 ghost use lib.ListN.{length};
 ghost use Rattle.event.specs.Event.{isCode};
 ghost use Rattle.tallies.specs.Memory.{talliesLength, tallyAtFit};
-ghost use Rattle.line.specs.Refusal.{readsRecord, readsTally, memorySound, statusWrong, inputOff, isRun, runUnsafe, runOccupied, noChance, nothingToCancel, refusalOf, inputOf};
+ghost use Rattle.line.specs.Refusal.{readsRecord, readsTally, memorySound, statusWrong, inputOff, isRun, runUnsafe, runOccupied, nothingToCancel, refusalOf, inputOf};
 use crate::line::Line;
-use crate::line::Undo;
 use event::Event;
 use refusal::Faults;
 use settings::Settings;
@@ -78,17 +77,6 @@ fn tally_fit(tallies: &[i64], code: u64) -> bool
     match lent {
         Lent::Fit(_) => true,
         Lent::Unfit => false,
-    }
-}
-
-impl Undo {
-    fn is_nothing(self) -> bool
-        ensures { λ r. ⌜ r ≡ noChance self ⌝ }
-    {
-        match self {
-            Undo::Nothing => true,
-            Undo::Kept(_) => false,
-        }
     }
 }
 

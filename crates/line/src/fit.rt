@@ -1,9 +1,8 @@
 // Whether a line is fit: tested before every event, so that no caller is trusted.
 ghost use mathlib.Core.Path.{_≡_};
-ghost use Rattle.line.specs.Fit.{lastFit, sensorFit, errorKnown, undoFit, statusFit, lineFit};
+ghost use Rattle.line.specs.Fit.{lastFit, sensorFit, errorKnown, statusFit, lineFit};
 use crate::line::Last;
 use crate::line::Line;
-use crate::line::Undo;
 use device::Sensor;
 use event::is_code;
 use weight::is_weight;
@@ -25,17 +24,6 @@ impl Last {
         ensures { λ r. ⌜ r ≡ lastFit self ⌝ }
     {
         is_weight(self.gross) & (self.safety <= 255) & (self.foreign <= 1)
-    }
-}
-
-impl Undo {
-    fn fit(self) -> bool
-        ensures { λ r. ⌜ r ≡ undoFit self ⌝ }
-    {
-        match self {
-            Undo::Nothing => true,
-            Undo::Kept(t) => t.fit(),
-        }
     }
 }
 

@@ -17,7 +17,6 @@ pub use item::Item;
 pub use item::Weighed;
 pub use line::Last;
 pub use line::Line;
-pub use line::Undo;
 pub use reply::Done;
 pub use reply::Reply;
 pub use reply::Step;

@@ -6,19 +6,13 @@ use device::Foreign;
 use device::Sensor;
 use device::Sorter;
 use event::Setup;
-use tally::Tally;
+use undo::Undo;
 
 // What the last sample said.
 pub struct Last {
     pub gross: i64,
     pub safety: u64,
     pub foreign: u64,
-}
-
-// What a cancel puts back: nothing, or the active code's tally as before the last verdict.
-pub enum Undo {
-    Nothing,
-    Kept(Tally),
 }
 
 pub struct Line {

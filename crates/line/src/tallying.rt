@@ -6,15 +6,11 @@ ghost use lib.ListN.{length};
 ghost use Rattle.weight.specs.Choice.{within};
 ghost use Rattle.weight.specs.Weight.{isWeight};
 ghost use Rattle.event.specs.Event.{isCode};
-ghost use Rattle.tally.specs.Tally.{tallyFit};
-ghost use Rattle.tallies.specs.Memory.{talliesLength, tallyAtFit};
+ghost use Rattle.tallies.specs.Memory.{talliesLength, tallyAt, tallyAtFit};
 ghost use Rattle.line.specs.Tallying.{stepIn, untallied, noted, recorded};
 use crate::effect::Effect;
-use crate::line::Undo;
+use crate::effect::bit;
 use crate::reply::Step;
-use tallies::Lent;
-use tally::Noted;
-use tally::Tally;
 
 impl Effect {
     // The next line with a reply that tallies nothing.
@@ -30,31 +26,18 @@ impl Effect {
     }
 
     // A verdict is tallied under the active code, which keeps the tally as before it; a full tally leaves nothing to cancel.
-    fn noted(self, tallies: &mut [i64], t: Tally) -> Step
-        requires { ⌜ (isCode (self .line .code) ≡ true) × (length (now tallies) ≡ talliesLength) × (tallyFit t ≡ true) × (within 1 8 (self .outcome) ≡ true) × (isWeight (self .net) ≡ true) ⌝ }
-        ensures answer { λ r. ⌜ r ≡ stepIn (noted self (now (tallies .entry)) t) ⌝ }
-        ensures memory { λ r. ⌜ now (tallies .exit) ≡ noted self (now (tallies .entry)) t .tallies ⌝ }
+    fn noted(self, tallies: &mut [i64]) -> Step
+        requires { ⌜ (isCode (self .line .code) ≡ true) × (length (now tallies) ≡ talliesLength) × (tallyAtFit (now tallies) (self .line .code) ≡ true) × (isWeight (self .net) ≡ true) × (within 1 8 (self .outcome) ≡ true) ⌝ }
+        ensures answer { λ r. ⌜ r ≡ stepIn (noted self (now (tallies .entry)) (tallyAt (now (tallies .entry)) (self .line .code))) ⌝ }
+        ensures memory { λ r. ⌜ now (tallies .exit) ≡ noted self (now (tallies .entry)) (tallyAt (now (tallies .entry)) (self .line .code)) .tallies ⌝ }
     {
         let line = self.line;
-        let noted = t.noted(self.outcome, self.net);
-        match noted {
-            Noted::Tallied(next) => {
-                tallies::write(&mut *tallies, line.code, next);
-                let kept = line.with_undo(Undo::Kept(t));
-                let reply = self.replied(1);
-                Step {
-                    line: kept,
-                    reply: reply,
-                }
-            }
-            Noted::Untallied => {
-                let left = line.with_undo(Undo::Nothing);
-                let reply = self.replied(0);
-                Step {
-                    line: left,
-                    reply: reply,
-                }
-            }
+        let undo = undo::note(tallies, line.code, self.outcome, self.net);
+        let next = line.with_undo(undo);
+        let reply = self.replied(bit(!undo.is_nothing()));
+        Step {
+            line: next,
+            reply: reply,
         }
     }
 
@@ -65,12 +48,7 @@ impl Effect {
         ensures memory { λ r. ⌜ now (tallies .exit) ≡ recorded self (now (tallies .entry)) .tallies ⌝ }
     {
         if (1 <= self.outcome) & (self.outcome <= 8) {
-            let line = self.line;
-            let lent = tallies::read(&*tallies, line.code);
-            let Lent::Fit(t) = lent else {
-                return self.untallied();
-            };
-            return self.noted(tallies, t);
+            return self.noted(tallies);
         }
         self.untallied()
     }

@@ -3,4 +3,3 @@ pub mod Reply
 pub mod Sheet
 pub mod Written
 pub mod Steps
-pub mod Examples

@@ -1,6 +1,4 @@
 // What a line of text says: an event, a report, or neither.
-ghost use Rattle.text.specs.Claims.{OneText};
-ghost use Rattle.text.specs.Examples.{Examples};
 use event::Event;
 
 mod form;
@@ -14,13 +12,3 @@ pub enum Read {
     Report(u64),
     Other,
 }
-
-// Each line that is taken has no other text.
-pub fn one_text()
-    ensures { λ _. ⌜ OneText ⌝ }
-{}
-
-// 01's example lines, and lines that are none.
-pub fn examples()
-    ensures { λ _. ⌜ Examples ⌝ }
-{}

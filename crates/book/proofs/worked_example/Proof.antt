@@ -2,12 +2,13 @@
 use mathlib.Core.Path.{refl}
 use Rattle.book.specs.Run.{run, runFrom}
 use Rattle.line.specs.Line.{freshLine, busy, conveyor, sorterOn}
-use Rattle.line.specs.Fit.{lastFit, sensorFit, errorKnown, itemFit, undoFit, statusFit, lineFit}
+use Rattle.line.specs.Fit.{lastFit, sensorFit, errorKnown, itemFit, statusFit, lineFit}
+use Rattle.undo.specs.Undo.{undoFit}
 use Rattle.line.specs.Effect.{halted, halting, replied}
 use Rattle.line.specs.Verdict.{sortedFor, errorFor, stoppedFor, given, orCrash, verdictOf, judged}
 use Rattle.line.specs.Sample.{step1, edgeMade, foreignRises, step2, step3, step4, step5, weighed, afterWeighing, step6, newItem, detecting, step7, runningTick, guarded, fromStep3, sampled}
 use Rattle.line.specs.Command.{ran, stopping, alarmed}
-use Rattle.line.specs.Tallying.{noted, recorded, cancelled, codeCleared}
+use Rattle.line.specs.Tallying.{noted, recorded, codeCleared}
 use Rattle.line.specs.Refusal.{memorySound, statusWrong, runUnsafe, runOccupied, nothingToCancel, refusalOf, inputOf}
 use Rattle.line.specs.Step.{accepted, stepOf}
 use Rattle.tally.specs.Tally.{tallyFit, hasRoom, largestWith, smallestWith, countedWith, weighedWith, added}
@@ -26,7 +27,7 @@ use Rattle.book.proofs.worked_example.Statement.{statement}
 use Rattle.book.proofs.worked_example.Tie as tie
 
 returns : tie.Need-returns
-unfolding run runFrom freshLine busy conveyor sorterOn lastFit sensorFit errorKnown itemFit undoFit statusFit lineFit halted halting replied sortedFor errorFor stoppedFor given orCrash verdictOf judged step1 edgeMade foreignRises step2 step3 step4 step5 weighed afterWeighing step6 newItem detecting step7 runningTick guarded fromStep3 sampled ran stopping alarmed noted recorded cancelled codeCleared memorySound statusWrong runUnsafe runOccupied nothingToCancel refusalOf inputOf accepted stepOf tallyFit hasRoom largestWith smallestWith countedWith weighedWith added part tallyOf unsigned tallyAtFit withTally zeros settled waiting full sorting anyEnds sorterTicked placed queued sorterOff waitsFit sorterFit delayFallen signalled foreignTicked flagUsed marked firstOff recordRanged limitsOrdered gradeOf setupRanged edgeAgrees sampleRanged eventRanged eventAgrees nearest rounded
+unfolding run runFrom freshLine busy conveyor sorterOn lastFit sensorFit errorKnown itemFit undoFit statusFit lineFit halted halting replied sortedFor errorFor stoppedFor given orCrash verdictOf judged step1 edgeMade foreignRises step2 step3 step4 step5 weighed afterWeighing step6 newItem detecting step7 runningTick guarded fromStep3 sampled ran stopping alarmed noted recorded codeCleared memorySound statusWrong runUnsafe runOccupied nothingToCancel refusalOf inputOf accepted stepOf tallyFit hasRoom largestWith smallestWith countedWith weighedWith added part tallyOf unsigned tallyAtFit withTally zeros settled waiting full sorting anyEnds sorterTicked placed queued sorterOff waitsFit sorterFit delayFallen signalled foreignTicked flagUsed marked firstOff recordRanged limitsOrdered gradeOf setupRanged edgeAgrees sampleRanged eventRanged eventAgrees nearest rounded
 returns c = refl
 
 pub worked-example-spec : {M : Type 1} → statement M

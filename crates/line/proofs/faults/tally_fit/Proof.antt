@@ -17,7 +17,7 @@ enum-told-2 c = search needs
 returns : tie.Need-returns
 returns c =
     let s = c .before .before .before in
-    sym (lent-fit (s .args .tallies .now) (s .args .code) (s .pre .0) (s .pre .1) _ (sym (c .before .before .read .ensures) ∙ c .enum-told .given .1) .0)
+    sym (lent-fit (s .args .tallies .now) (s .args .code) (s .pre .0) (s .pre .1) _ (sym (c .before .before .read .ensures) ∙ c .enum-told .given .1))
 
 returns-2 : tie.Need-returns-2
 returns-2 c =

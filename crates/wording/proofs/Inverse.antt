@@ -1,0 +1,286 @@
+-- Reading and writing a line of a form undo each other. Assumes nothing.
+use Prim.Native.Nat.{ℕ, suc, zero, _+_, _-_, _*_, _/_, _%_, _≤_, _<_}
+use mathlib.Core.Path.{_≡_, refl, sym, ap, _∙_}
+use mathlib.Core.Bool.{Bool, true, false}
+use mathlib.Core.List.{List, [], _∷_, _++_, append-assoc, append-nil}
+use lib.Dec.{leb, ltb, eqb}
+use lib.IntN.{ℤ, pos, negsuc}
+use lib.ListN.{length}
+use native.Mathlib.Omega.{arith}
+use borrow.Author.Tests.{lt-ltb, le-ltb, le-leb, eq-eqb, ne-eqb, ltb-true, ltb-false, leb-true, eqb-true}
+use Prim.Native.String.{String, [] as empty, _∷_ as _then_}
+use Rattle.weight.specs.Choice.{if_then_else_, within}
+use Rattle.weight.proofs.Tests.{both, if-ind}
+use Rattle.text.specs.Number.{Head, none, some, isDigit, signed, digits, positive, numberHead, fourDigits, fourNumber, fourHead, decimalBy, decimal, numberText, fourText}
+use Rattle.text.specs.Form.{Item, byte, number, four, plain, fieldItems, moreItems, fieldsForm, Values, other, values, also, andRest, lineValues, lineText}
+use Rattle.wording.specs.OneText.{OneText}
+use Rattle.text.specs.Views.{digitFrom}
+use Rattle.text.proofs.Heads.{never, digits-end, digit-bounds, four-bounds}
+
+clash : {X : Type 0} → _≡_ {A = ℕ} 0 1 → X
+clash z = absurd (omega arith)
+
+-- Writing, then reading.
+
+digit-yes : (d : ℕ) → d < 10 → isDigit (48 + d) ≡ true
+digit-yes d h = simp (le-leb 48 (48 + d) (omega arith), le-leb (48 + d) 57 (omega arith))
+
+digits-one : (below : Bool) (n d : ℕ) (t : List ℕ) → d < 10 → digits below n ((48 + d) ∷ t) ≡ digits below (n * 10 + d) t
+digits-one below n d t h = rw (digit-yes d h) (ap (λ (x : ℕ). digits below (n * 10 + x) t) (omega arith))
+
+-- to show a thing of a number's digits, show it of one digit and of one digit more
+by-digits : (P : List ℕ → Type 0) (k n : ℕ) → (n < 10 → P ((48 + n) ∷ [])) → (10 ≤ n → P (decimalBy k (n / 10) ++ (48 + n % 10) ∷ [])) → P (decimalBy (suc k) n)
+by-digits P k n one more = if-ind P (ltb n 10) _ _ (λ e. one (ltb-true n 10 e)) (λ e. more (ltb-false n 10 e))
+
+digits-by : (below : Bool) (k n : ℕ) (t : List ℕ) → n < k → digits below 0 (decimalBy k n ++ t) ≡ digits below n t
+digits-by below zero n t h = absurd (omega arith)
+digits-by below (suc k) n t h =
+    by-digits (λ (l : List ℕ). digits below 0 (l ++ t) ≡ digits below n t) k n
+    (λ lt. digits-one below 0 n t lt ∙ ap (λ (x : ℕ). digits below x t) (omega arith))
+    (λ ge.
+    ap (digits below 0) (append-assoc (decimalBy k (n / 10)) ((48 + n % 10) ∷ []) t)
+    ∙ digits-by below k (n / 10) ((48 + n % 10) ∷ t) (omega arith)
+    ∙ digits-one below (n / 10) (n % 10) t (omega arith)
+    ∙ ap (λ (x : ℕ). digits below x t) (omega arith))
+
+-- a first digit 1 to 9
+abbrev Leads : List ℕ → Type 0
+Leads [] = ⊥
+Leads (b ∷ s) = (49 ≤ b) × (b ≤ 57)
+
+leads-by : (k n : ℕ) (t : List ℕ) → n < k → 1 ≤ n → Leads (decimalBy k n ++ t)
+leads-by zero n t h p = absurd (omega arith)
+leads-by (suc k) n t h p =
+    by-digits (λ (l : List ℕ). Leads (l ++ t)) k n
+    (λ lt. (omega arith, omega arith))
+    (λ ge. rw (append-assoc (decimalBy k (n / 10)) ((48 + n % 10) ∷ []) t) (leads-by k (n / 10) ((48 + n % 10) ∷ t) (omega arith) (omega arith)))
+
+positive-leads : (below : Bool) (s : List ℕ) → Leads s → positive below s ≡ digits below 0 s
+positive-leads below [] h = absurd h
+positive-leads below (b ∷ s) (lo, hi) =
+    simp (le-leb 49 b lo, le-leb 48 b (omega arith), le-leb b 57 hi) (ap (λ (x : ℕ). digits below x s) (omega arith))
+
+head-leads : (s : List ℕ) → Leads s → numberHead s ≡ positive false s
+head-leads [] h = absurd h
+head-leads (b ∷ s) (lo, hi) = simp (ne-eqb b 48 (λ e. omega arith), ne-eqb b 45 (λ e. omega arith))
+
+-- a number from 1 is read from its text
+positive-of-text : (below : Bool) (n : ℕ) (t : List ℕ) → 1 ≤ n → digitFrom 48 t ≡ false → positive below (decimal n ++ t) ≡ some (signed below n) t
+positive-of-text below n t p h =
+    positive-leads below (decimal n ++ t) (leads-by (suc n) n t (omega arith) p) ∙ digits-by below (suc n) n t (omega arith) ∙ digits-end below n t h
+
+head-of-text : (v : ℤ) (t : List ℕ) → digitFrom 48 t ≡ false → numberHead (numberText v ++ t) ≡ some v t
+head-of-text (pos zero) t h = refl
+head-of-text (pos (suc n)) t h =
+    head-leads (decimal (suc n) ++ t) (leads-by (suc (suc n)) (suc n) t (omega arith) (omega arith)) ∙ positive-of-text false (suc n) t (omega arith) h
+head-of-text (negsuc n) t h = positive-of-text true (suc n) t (omega arith) h
+
+head-of-four : (n : ℕ) (t : List ℕ) → n ≤ 9999 → fourHead (fourText (pos n) ++ t) ≡ some (pos n) t
+head-of-four n t h =
+    simp (digit-yes (n / 10 / 10 / 10) (omega arith), digit-yes (n / 10 / 10 % 10) (omega arith), digit-yes (n / 10 % 10) (omega arith), digit-yes (n % 10) (omega arith))
+    (ap (λ (x : ℕ). some (pos x) t) (omega arith))
+
+-- whether a line of a form may start with a digit
+abbrev starts : List Item → Bool
+starts [] = false
+starts (byte c ∷ form) = isDigit c
+starts (number ∷ form) = true
+starts (four ∷ form) = true
+
+text-starts : (form : List Item) (vs : List ℤ) → starts form ≡ false → digitFrom 48 (lineText form vs) ≡ false
+text-starts [] vs h = refl
+text-starts (byte c ∷ form) vs h = h
+text-starts (number ∷ form) vs h = never (sym h)
+text-starts (four ∷ form) vs h = never (sym h)
+
+-- as many values as the form has, no number followed by a digit, and four digits for each four
+abbrev Fit : List Item → List ℤ → Type 0
+Fit [] [] = Unit
+Fit [] (v ∷ vs) = ⊥
+Fit (byte c ∷ form) vs = Fit form vs
+Fit (number ∷ form) [] = ⊥
+Fit (number ∷ form) (v ∷ vs) = (starts form ≡ false) × Fit form vs
+Fit (four ∷ form) [] = ⊥
+Fit (four ∷ form) (pos n ∷ vs) = (n ≤ 9999) × Fit form vs
+Fit (four ∷ form) (negsuc n ∷ vs) = ⊥
+
+values-of-text : (form : List Item) (vs : List ℤ) → Fit form vs → lineValues form (lineText form vs) ≡ values vs
+values-of-text [] [] f = refl
+values-of-text [] (v ∷ vs) f = absurd f
+values-of-text (byte c ∷ form) vs f = simp (eq-eqb c c refl) (values-of-text form vs f)
+values-of-text (number ∷ form) [] f = absurd f
+values-of-text (number ∷ form) (v ∷ vs) f =
+    ap (andRest (lineValues form)) (head-of-text v (lineText form vs) (text-starts form vs (f .0))) ∙ ap (also v) (values-of-text form vs (f .1))
+values-of-text (four ∷ form) [] f = absurd f
+values-of-text (four ∷ form) (pos n ∷ vs) f =
+    ap (andRest (lineValues form)) (head-of-four n (lineText form vs) (f .0)) ∙ ap (also (pos n)) (values-of-text form vs (f .1))
+values-of-text (four ∷ form) (negsuc n ∷ vs) f = absurd f
+
+fit-plain : (word : String) (form : List Item) (vs : List ℤ) → Fit form vs → Fit (plain word ++ form) vs
+fit-plain empty form vs f = f
+fit-plain (c then word) form vs f = fit-plain word form vs f
+
+-- a field, and those behind it
+fit-field : (key : String) (form : List Item) (v : ℤ) (vs : List ℤ) → starts form ≡ false → Fit form vs → Fit (fieldItems key ++ form) (v ∷ vs)
+fit-field key form v vs o f =
+    rw (append-assoc (plain key) (plain "=" ++ number ∷ []) form) (fit-plain key (byte 61 ∷ number ∷ form) (v ∷ vs) (o, f))
+
+more-starts : (keys : List String) → starts (moreItems keys) ≡ false
+more-starts [] = refl
+more-starts (key ∷ keys) = refl
+
+fit-more : (keys : List String) (vs : List ℤ) → length vs ≡ length keys → Fit (moreItems keys) vs
+fit-more [] [] h = tt
+fit-more [] (v ∷ vs) h = absurd (omega arith)
+fit-more (key ∷ keys) [] h = absurd (omega arith)
+fit-more (key ∷ keys) (v ∷ vs) h = fit-field key (moreItems keys) v vs (more-starts keys) (fit-more keys vs (omega arith))
+
+fit-fields : (keys : List String) (vs : List ℤ) → length vs ≡ length keys → Fit (fieldsForm keys) vs
+fit-fields [] [] h = tt
+fit-fields [] (v ∷ vs) h = absurd (omega arith)
+fit-fields (key ∷ keys) [] h = absurd (omega arith)
+fit-fields (key ∷ keys) (v ∷ vs) h = fit-field key (moreItems keys) v vs (more-starts keys) (fit-more keys vs (omega arith))
+
+-- Reading, then writing.
+
+-- the bound on the number of digits does not matter where it is large enough
+by-any : (k j n : ℕ) → n < k → n < j → decimalBy k n ≡ decimalBy j n
+by-any zero j n h g = absurd (omega arith)
+by-any (suc k) zero n h g = absurd (omega arith)
+by-any (suc k) (suc j) n h g =
+    by-digits (λ (l : List ℕ). l ≡ decimalBy (suc j) n) k n
+    (λ lt. rw (lt-ltb n 10 lt))
+    (λ ge. rw (le-ltb n 10 ge) (ap (λ (l : List ℕ). l ++ (48 + n % 10) ∷ []) (by-any k j (n / 10) (omega arith) (omega arith))))
+
+-- one digit more
+decimal-more : (a d : ℕ) → 1 ≤ a → d < 10 → decimal (a * 10 + d) ≡ decimal a ++ (48 + d) ∷ []
+decimal-more a d h lt =
+    let q : (a * 10 + d) / 10 ≡ a = omega arith in
+    let r : (a * 10 + d) % 10 ≡ d = omega arith in
+    by-digits (λ (l : List ℕ). l ≡ decimal a ++ (48 + d) ∷ []) (a * 10 + d) (a * 10 + d)
+    (λ small. absurd (omega arith))
+    (λ ge. rw (q, r) (ap (λ (l : List ℕ). l ++ (48 + d) ∷ []) (by-any (a * 10 + d) (suc a) a (omega arith) (omega arith))))
+
+-- a text is t, that of a number from 1, and the rest
+record Written (below : Bool) (t : List ℕ) (v : ℤ) (rest : List ℕ) : Type 0 where
+  total : ℕ
+  above : 1 ≤ total
+  is : v ≡ signed below total
+  same : t ≡ decimal total ++ rest
+
+digits-back : (below : Bool) (n : ℕ) (s : List ℕ) (v : ℤ) (rest : List ℕ) → 1 ≤ n → digits below n s ≡ some v rest → Written below (decimal n ++ s) v rest
+digits-back below n [] v rest p h = record { total = n; above = p; is = cc; same = cc }
+digits-back below n (b ∷ s) v rest p h = go (isDigit b) refl h (λ e. digits-back below (n * 10 + (b - 48)) s v rest (omega arith) e)
+  where
+    go : (t : Bool) → isDigit b ≡ t → (if t then digits below (n * 10 + (b - 48)) s else some (signed below n) (b ∷ s)) ≡ some v rest
+        → (digits below (n * 10 + (b - 48)) s ≡ some v rest → Written below (decimal (n * 10 + (b - 48)) ++ s) v rest) → Written below (decimal n ++ b ∷ s) v rest
+    go true e h more =
+        let r = more h in
+        let q = digit-bounds b e in
+        let d : 48 + (b - 48) ≡ b = omega arith in
+        let l : decimal (n * 10 + (b - 48)) ≡ decimal n ++ b ∷ [] = rw d at (decimal-more n (b - 48) p (omega arith)) in
+        record { total = r .total; above = r .above; is = r .is; same = sym (append-assoc (decimal n) (b ∷ []) s) ∙ ap (λ (t : List ℕ). t ++ s) (sym l) ∙ r .same }
+    go false e h more = record { total = n; above = p; is = cc; same = cc }
+
+positive-back : (below : Bool) (s : List ℕ) (v : ℤ) (rest : List ℕ) → positive below s ≡ some v rest → Written below s v rest
+positive-back below [] v rest h = clash (cc)
+positive-back below (b ∷ s) v rest h = go (within 49 57 b) refl h
+  where
+    go : (t : Bool) → within 49 57 b ≡ t → (if t then digits below (b - 48) s else none) ≡ some v rest → Written below (b ∷ s) v rest
+    go false e h = clash (cc)
+    go true e h =
+        let q = both (leb 49 b) (leb b 57) e in
+        let lo : 49 ≤ b = leb-true 49 b (q .0) in
+        let hi : b ≤ 57 = leb-true b 57 (q .1) in
+        let r = digits-back below (b - 48) s v rest (omega arith) h in
+        let d : 48 + (b - 48) ≡ b = omega arith in
+        let l : decimal (b - 48) ≡ b ∷ [] = rw (lt-ltb (b - 48) 10 (omega arith), d) in
+        record { total = r .total; above = r .above; is = r .is; same = ap (λ (t : List ℕ). t ++ s) (sym l) ∙ r .same }
+
+minus-text : (n : ℕ) → 1 ≤ n → numberText (signed true n) ≡ 45 ∷ decimal n
+minus-text zero h = absurd (omega arith)
+minus-text (suc n) h = refl
+
+-- what is read as a number is that number's text
+text-of-head : (s : List ℕ) (v : ℤ) (rest : List ℕ) → numberHead s ≡ some v rest → s ≡ numberText v ++ rest
+text-of-head [] v rest h = clash (cc)
+text-of-head (b ∷ s) v rest h = go (eqb b 48) (eqb b 45) refl refl h
+  where
+    go : (t u : Bool) → eqb b 48 ≡ t → eqb b 45 ≡ u
+        → (if t then some (pos 0) s else (if u then positive true s else positive false (b ∷ s))) ≡ some v rest → b ∷ s ≡ numberText v ++ rest
+    go true u e f h =
+        let ev : pos 0 ≡ v = cc in
+        let es : s ≡ rest = cc in
+        rw (← ev, ← es) (ap (λ (x : ℕ). x ∷ s) (eqb-true b 48 e))
+    go false true e f h =
+        let r = positive-back true s v rest h in
+        rw (r .is, minus-text (r .total) (r .above), eqb-true b 45 f) (ap (λ (l : List ℕ). 45 ∷ l) (r .same))
+    go false false e f h = let r = positive-back false (b ∷ s) v rest h in rw (r .is) (r .same)
+
+four-same : {a b c d a′ b′ c′ d′ : ℕ} {s t : List ℕ} → a ≡ a′ → b ≡ b′ → c ≡ c′ → d ≡ d′ → s ≡ t → a ∷ b ∷ c ∷ d ∷ s ≡ a′ ∷ b′ ∷ c′ ∷ d′ ∷ t
+four-same p q r u v = cc
+
+-- four digits that are read are their number's text
+text-of-four : (s : List ℕ) (v : ℤ) (rest : List ℕ) → fourHead s ≡ some v rest → s ≡ fourText v ++ rest
+text-of-four [] v rest h = clash (cc)
+text-of-four (a ∷ []) v rest h = clash (cc)
+text-of-four (a ∷ b ∷ []) v rest h = clash (cc)
+text-of-four (a ∷ b ∷ c ∷ []) v rest h = clash (cc)
+text-of-four (a ∷ b ∷ c ∷ d ∷ s) v rest h = go (fourDigits a b c d) refl h
+  where
+    go : (t : Bool) → fourDigits a b c d ≡ t → (if t then some (pos (fourNumber a b c d)) s else none) ≡ some v rest → a ∷ b ∷ c ∷ d ∷ s ≡ fourText v ++ rest
+    go false e h = clash (cc)
+    go true e h =
+        let f = four-bounds a b c d e in
+        let n : ℕ = fourNumber a b c d in
+        let ea : a ≡ 48 + n / 10 / 10 / 10 = omega arith in
+        let eb : b ≡ 48 + n / 10 / 10 % 10 = omega arith in
+        let ec : c ≡ 48 + n / 10 % 10 = omega arith in
+        let ed : d ≡ 48 + n % 10 = omega arith in
+        let es : s ≡ rest = cc in
+        let ev : pos n ≡ v = cc in
+        four-same ea eb ec ed es ∙ ap (λ (w : ℤ). fourText w ++ rest) ev
+
+-- the first value of a line, and the others
+abbrev Back : List Item → Type 0
+Back form = (rest : List ℕ) (ws : List ℤ) → lineValues form rest ≡ values ws → rest ≡ lineText form ws
+
+split : (form : List Item) (v : ℤ) (w : Values) (rest : List ℕ) (vs : List ℤ) → lineValues form rest ≡ w → also v w ≡ values vs → Back form
+    → (ws : List ℤ) × (vs ≡ v ∷ ws) × (rest ≡ lineText form ws)
+split form v other rest vs f g more = clash (cc)
+split form v (values ws) rest vs f g more = (ws, cc, more rest ws f)
+
+-- what is read as a line of a form is that form's text of the values
+text-of-values : (form : List Item) (s : List ℕ) (vs : List ℤ) → lineValues form s ≡ values vs → s ≡ lineText form vs
+text-of-values [] [] vs h = refl
+text-of-values [] (b ∷ s) vs h = clash (cc)
+text-of-values (byte c ∷ form) [] vs h = clash (cc)
+text-of-values (byte c ∷ form) (b ∷ s) vs h = go (eqb b c) refl h (λ e. text-of-values form s vs e)
+  where
+    go : (t : Bool) → eqb b c ≡ t → (if t then lineValues form s else other) ≡ values vs → (lineValues form s ≡ values vs → s ≡ lineText form vs) → b ∷ s ≡ c ∷ lineText form vs
+    go true e h more = let f : b ≡ c = eqb-true b c e in let g = more h in cc
+    go false e h more = clash (cc)
+text-of-values (number ∷ form) s vs h =
+    go (numberHead s) refl h (λ rest ws e. text-of-values form rest ws e)
+  where
+    go : (r : Head) → numberHead s ≡ r → andRest (lineValues form) r ≡ values vs → Back form → s ≡ lineText (number ∷ form) vs
+    go none e h more = clash (cc)
+    go (some v rest) e h more =
+        let p = split form v (lineValues form rest) rest vs refl h more in
+        rw (p .1) (text-of-head s v rest e ∙ ap (λ (l : List ℕ). numberText v ++ l) (p .2))
+text-of-values (four ∷ form) s vs h =
+    go (fourHead s) refl h (λ rest ws e. text-of-values form rest ws e)
+  where
+    go : (r : Head) → fourHead s ≡ r → andRest (lineValues form) r ≡ values vs → Back form → s ≡ lineText (four ∷ form) vs
+    go none e h more = clash (cc)
+    go (some v rest) e h more =
+        let p = split form v (lineValues form rest) rest vs refl h more in
+        rw (p .1) (text-of-four s v rest e ∙ ap (λ (l : List ℕ). fourText v ++ l) (p .2))
+
+pub one-text : OneText
+one-text = record {
+  taken = text-of-values;
+  fields = λ keys vs h. values-of-text (fieldsForm keys) vs (fit-fields keys vs h);
+  commands = λ word. rw append-nil at (values-of-text (plain word ++ []) [] (fit-plain word [] [] tt));
+  codes = λ word n h. values-of-text (plain word ++ four ∷ []) (pos n ∷ []) (fit-plain word (four ∷ []) (pos n ∷ []) (h, tt));
+}

@@ -1,0 +1,69 @@
+-- 01, "Text lines": its example lines, and lines that are none of them.
+use Prim.Native.Nat.{ℕ}
+use Prim.Native.Char.{code}
+use Prim.Native.String.{String, [] as empty, _∷_ as _then_}
+use mathlib.Core.List.{List, [], _∷_}
+use mathlib.Core.Path.{_≡_}
+use lib.IntN.{pos, negsuc}
+use Rattle.text.specs.declared.Read.{Read}
+use Rattle.text.specs.declared.Read.the-variants as read
+use Rattle.event.specs.declared.Event.the-variants as event
+use Rattle.text.specs.Read.{readLine}
+
+abbrev pub bytes : String → List ℕ
+bytes empty = []
+bytes (c then s) = code c ∷ bytes s
+
+abbrev pub said : String → Read
+said s = readLine (bytes s)
+
+pub record Reading : Type 0 where
+  pub setup : said "mode=1 edge=1 tc=0 tw=0 ta=2 tf=0 ts=1 to=1 sort=0 stop=0 need=0" ≡ read.Event (event.Setup (record {
+    mode = 1;
+    edge = 1;
+    tc = 0;
+    tw = 0;
+    ta = 2;
+    tf = 0;
+    ts = 1;
+    to = 1;
+    sort = 0;
+    stop = 0;
+    need = 0;
+  }))
+  pub store : said "code=0 target=1000 lolo=900 lo=990 hi=1010 hihi=1100 nearzero=100 tare=0" ≡ read.Event (event.Store 0 (record {
+    target = pos 1000;
+    lolo = pos 900;
+    lo = pos 990;
+    hi = pos 1010;
+    hihi = pos 1100;
+    nearzero = pos 100;
+    tare = pos 0;
+  }))
+  pub run : said "COPR" ≡ read.Event event.Run
+  pub sample : said "sensor=1 emergency=0 safety=255 foreign=0 gross=-500" ≡ read.Event (event.Sample (record {
+    gross = negsuc 499;
+    sensor = 1;
+    emergency = 0;
+    safety = 255;
+    foreign = 0;
+  }))
+  pub clear : said "CDTL0100" ≡ read.Event (event.ClearCode 100)
+  pub report : said "report=0" ≡ read.Report 0
+  -- well formed, but too large or too small: carried out of range
+  pub large : said "report=99999999999999999999999999999999999999" ≡ read.Report 1000000000
+  pub small : said "report=-1" ≡ read.Report 1000000000
+  -- 120 bytes, and one more
+  pub longest : said "report=99999999999999999999999999999999999999999999999999999999999999999999999999999999999999999999999999999999999999999" ≡ read.Report 1000000000
+  pub too-long : said "report=999999999999999999999999999999999999999999999999999999999999999999999999999999999999999999999999999999999999999999" ≡ read.Other
+  -- not well formed
+  pub plus : said "report=+1" ≡ read.Other
+  pub leading-zero : said "report=007" ≡ read.Other
+  pub minus-zero : said "report=-0" ≡ read.Other
+  pub no-digits : said "report=" ≡ read.Other
+  pub space-behind : said "report=1 " ≡ read.Other
+  pub two-spaces : said "sensor=1  emergency=0 safety=255 foreign=0 gross=500" ≡ read.Other
+  pub order : said "sensor=1 emergency=0 foreign=0 safety=255 gross=500" ≡ read.Other
+  pub three-digits : said "CDTL010" ≡ read.Other
+  pub five-digits : said "CDTL00100" ≡ read.Other
+  pub empty-line : said "" ≡ read.Other

@@ -1,0 +1,21 @@
+// The wording of the lines: each line that is taken has one text, and 01's example reads and prints as it stands there.
+// The functions say nothing of the code: their contracts are theorems on the definitions that the reader and the
+// printer equal.
+ghost use Rattle.wording.specs.OneText.{OneText};
+ghost use Rattle.wording.specs.Reading.{Reading};
+ghost use Rattle.wording.specs.Printing.{Printing};
+
+// Each line that is taken has no other text.
+pub fn one_text()
+    ensures { λ _. ⌜ OneText ⌝ }
+{}
+
+// 01's example lines, and lines that are none.
+pub fn lines_read()
+    ensures { λ _. ⌜ Reading ⌝ }
+{}
+
+// What 01's example prints.
+pub fn lines_printed()
+    ensures { λ _. ⌜ Printing ⌝ }
+{}
