@@ -16,7 +16,7 @@ use Rattle.event.specs.declared.Event.the-variants.{Sample, Run, Stop, Emergenc
 use Rattle.event.specs.declared.Setup as setup
 use Rattle.event.proofs.Facts.{in-range}
 use Rattle.device.specs.Sorter.{sorting}
-use Rattle.tally.specs.Tally.{emptyTally}
+use Rattle.tally.specs.Tally.{emptyTally, isVerdict}
 use Rattle.tallies.specs.Memory.{withTally, zeros, talliesLength}
 use Rattle.line.specs.Line.{stopped, paused, emergency, noError, inHand, isRunning, busy, withStatus, withSetup, withUndo}
 use Rattle.line.specs.Fit.{errorKnown, statusFit, itemFit}
@@ -25,7 +25,7 @@ use Rattle.line.specs.Sample.{sampled}
 use Rattle.line.specs.Command.{ran, stopping, alarmed}
 use Rattle.line.specs.Refusal.{statusWrong, nothingToCancel}
 use Rattle.undo.specs.Undo.{noChance, restored}
-use Rattle.line.specs.Tallying.{isVerdict, untallied, cancelled, recalled, codeCleared, clearedOne, clearedAll}
+use Rattle.line.specs.Tallying.{untallied, recalled, codeCleared, clearedOne, clearedAll}
 use Rattle.line.specs.Step.{accepted}
 use Rattle.undo.specs.declared.Undo.{Undo}
 use Rattle.undo.specs.declared.Undo.the-variants.{Nothing, Kept}

@@ -11,7 +11,7 @@ use borrow.Author.Tests.{eqb-true, eqb-false, eq-eqb, leb-true, ltb-true}
 use Rattle.weight.specs.Choice.{if_then_else_}
 use Rattle.weight.proofs.Tests.{if-ind, by-cases}
 use Rattle.event.specs.declared.Event.{Event}
-use Rattle.tally.specs.Tally.{tallyFit, hasRoom, added}
+use Rattle.tally.specs.Tally.{tallyFit, hasRoom, added, isVerdict}
 use Rattle.tallies.specs.Memory.{numbers, part, tallyOf, tallyAt, tallyAtFit, withTally, zeros, talliesLength}
 use Rattle.tally.specs.declared.tally.Tally.{Tally}
 use Rattle.tallies.proofs.Parts.{length-kept, part-same, part-other, part-zeros, tally-of-numbers, fit-same, fit-other, fit-zeros, length-zeros}
@@ -19,7 +19,7 @@ use Rattle.line.specs.Line.{busy, withUndo}
 use Rattle.line.specs.Fit.{statusFit}
 use Rattle.undo.specs.Undo.{undoFit}
 use Rattle.line.specs.Effect.{replied}
-use Rattle.line.specs.Tallying.{Out, isVerdict, untallied, tallied, noted, recorded}
+use Rattle.line.specs.Tallying.{Out, untallied, tallied, noted, recorded}
 use Rattle.undo.specs.declared.Undo.{Undo}
 use Rattle.undo.specs.declared.Undo.the-variants.{Nothing, Kept}
 use Rattle.line.specs.declared.line.Line.{Line}

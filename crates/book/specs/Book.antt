@@ -5,9 +5,10 @@ use mathlib.Core.List.{List, [], _∷_}
 use lib.Dec.{eqb, ltb}
 use lib.IntN.{ℤ}
 use lib.ListN.{length}
-use Rattle.weight.specs.Choice.{if_then_else_, within}
+use Rattle.weight.specs.Choice.{if_then_else_}
 use Rattle.event.specs.declared.Event.{Event}
 use Rattle.event.specs.declared.Event.the-variants.{Sample, Run, Stop, Emergency, Recall, Cancel, ClearCode, ClearAll, ErrorReset, NoOperation, Setup, Store}
+use Rattle.tally.specs.Tally.{isVerdict}
 use Rattle.line.specs.declared.reply.Reply.{Reply}
 use Rattle.line.specs.declared.reply.Reply.the-variants.{Refused, Done}
 
@@ -65,9 +66,6 @@ commanded b ErrorReset = b
 commanded b NoOperation = b
 commanded b (Setup s) = b
 commanded b (Store c s) = b
-
-abbrev pub isVerdict : ℕ → Bool
-isVerdict o = within 1 8 o
 
 -- the book after an event and its reply; "refusals too" leave it as it is
 unfoldable pub noted : Book → Event → Reply → Book

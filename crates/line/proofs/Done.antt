@@ -7,16 +7,13 @@ use Rattle.weight.proofs.Tests.{if-ind}
 use Rattle.settings.specs.declared.Settings.{Settings}
 use Rattle.event.specs.declared.Event.{Event}
 use Rattle.event.specs.declared.Event.the-variants.{Sample, Run, Stop, Emergency, Recall, Cancel, ClearCode, ClearAll, ErrorReset, NoOperation, Setup, Store}
-use Rattle.tally.specs.Tally.{hasRoom}
-use Rattle.tallies.specs.Memory.{tallyAt, withTally}
-use Rattle.line.specs.Line.{withUndo}
-use Rattle.line.specs.Effect.{plain, replied}
+use Rattle.tally.specs.Tally.{hasRoom, isVerdict}
+use Rattle.tallies.specs.Memory.{tallyAt}
+use Rattle.line.specs.Effect.{replied}
 use Rattle.line.specs.Sample.{sampled}
-use Rattle.line.specs.Tallying.{Out, isVerdict, untallied, tallied, passedOver, noted, recorded, cancelled}
+use Rattle.line.specs.Tallying.{Out, untallied, tallied, passedOver, noted, recorded}
 use Rattle.line.specs.Step.{accepted}
 use Rattle.line.specs.declared.line.Line.{Line}
-use Rattle.undo.specs.declared.Undo.{Undo}
-use Rattle.undo.specs.declared.Undo.the-variants.{Nothing, Kept}
 use Rattle.line.specs.declared.effect.Effect.{Effect}
 use Rattle.line.specs.declared.reply.Reply.{Reply}
 use Rattle.line.specs.declared.reply.Reply.the-variants.{Refused, Done}

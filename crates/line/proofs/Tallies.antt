@@ -3,20 +3,16 @@ use mathlib.Core.Path.{_≡_, refl, sym, _∙_}
 use mathlib.Core.Bool.{true, false}
 use mathlib.Core.List.{List}
 use Prim.Native.Nat.{ℕ}
-use native.Mathlib.Omega.{arith}
 use lib.IntN.{ℤ}
 use lib.ListN.{length}
 use borrow.Author.Tests.{eq-eqb}
 use Rattle.weight.specs.Choice.{if_then_else_}
-use Rattle.weight.proofs.Tests.{by-cases, and-intro}
+use Rattle.weight.proofs.Tests.{by-cases, and-intro, clash}
 use Rattle.event.specs.Event.{isCode}
 use Rattle.tally.specs.Tally.{tallyFit}
 use Rattle.tallies.specs.Memory.{talliesLength, lies, tallyAt, tallyAtFit, lentAt, withTally, written}
 use Rattle.tally.specs.declared.tally.Tally.{Tally}
 use Rattle.tallies.specs.declared.Lent.the-variants.{Fit, Unfit}
-
-clash : {A : Type 0} → _≡_ {A = ℕ} 0 1 → A
-clash z = absurd (omega arith)
 
 module _ (ts : List ℤ) (code : ℕ) (c : isCode code ≡ true) (n : length ts ≡ talliesLength) where
   pub lies-there : lies ts code ≡ true

@@ -1,11 +1,10 @@
 -- 01: how verdicts, cancel and the clears change the tallies and the chance to cancel.
 use Prim.Native.Nat.{ℕ}
-use mathlib.Core.Bool.{Bool}
 use mathlib.Core.List.{List}
 use lib.Dec.{eqb}
 use lib.IntN.{ℤ}
-use Rattle.weight.specs.Choice.{if_then_else_, within}
-use Rattle.tally.specs.Tally.{emptyTally, hasRoom, added}
+use Rattle.weight.specs.Choice.{if_then_else_}
+use Rattle.tally.specs.Tally.{emptyTally, isVerdict, hasRoom, added}
 use Rattle.tallies.specs.Memory.{tallyAt, withTally, zeros, talliesLength}
 use Rattle.tally.specs.declared.tally.Tally.{Tally}
 use Rattle.line.specs.Line.{withCode, withUndo}
@@ -26,10 +25,6 @@ pub record Out : Type 0 where
 -- the next line and the reply alone
 abbrev pub stepIn : Out → Step
 stepIn o = record { line = o .line; reply = o .reply }
-
--- "A verdict (outcome 1 to 8)"
-abbrev pub isVerdict : ℕ → Bool
-isVerdict o = within 1 8 o
 
 -- an effect that tallies nothing
 abbrev pub untallied : Effect → List ℤ → Out

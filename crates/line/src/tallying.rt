@@ -3,9 +3,9 @@ ghost use mathlib.Core.Path.{_≡_};
 ghost use mathlib.Core.Bool.{true};
 ghost use mathlib.Core.List.{[]};
 ghost use lib.ListN.{length};
-ghost use Rattle.weight.specs.Choice.{within};
 ghost use Rattle.weight.specs.Weight.{isWeight};
 ghost use Rattle.event.specs.Event.{isCode};
+ghost use Rattle.tally.specs.Tally.{isVerdict};
 ghost use Rattle.tallies.specs.Memory.{talliesLength, tallyAt, tallyAtFit};
 ghost use Rattle.line.specs.Tallying.{stepIn, untallied, noted, recorded};
 use crate::effect::Effect;
@@ -27,7 +27,7 @@ impl Effect {
 
     // A verdict is tallied under the active code, which keeps the tally as before it; a full tally leaves nothing to cancel.
     fn noted(self, tallies: &mut [i64]) -> Step
-        requires { ⌜ (isCode (self .line .code) ≡ true) × (length (now tallies) ≡ talliesLength) × (tallyAtFit (now tallies) (self .line .code) ≡ true) × (isWeight (self .net) ≡ true) × (within 1 8 (self .outcome) ≡ true) ⌝ }
+        requires { ⌜ (isCode (self .line .code) ≡ true) × (length (now tallies) ≡ talliesLength) × (tallyAtFit (now tallies) (self .line .code) ≡ true) × (isWeight (self .net) ≡ true) × (isVerdict (self .outcome) ≡ true) ⌝ }
         ensures answer { λ r. ⌜ r ≡ stepIn (noted self (now (tallies .entry)) (tallyAt (now (tallies .entry)) (self .line .code))) ⌝ }
         ensures memory { λ r. ⌜ now (tallies .exit) ≡ noted self (now (tallies .entry)) (tallyAt (now (tallies .entry)) (self .line .code)) .tallies ⌝ }
     {

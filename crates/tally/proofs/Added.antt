@@ -7,17 +7,17 @@ use lib.Dec.{leb, eqb}
 use lib.IntN.{ℤ, natAbs, _+ℤ_}
 use lib.Signed.{ltZ}
 use borrow.Author.Tests.{leb-true, le-leb, ltb-true, eq-eqb, ne-eqb}
-use Rattle.weight.specs.Choice.{if_then_else_, within}
+use Rattle.weight.specs.Choice.{if_then_else_}
 use Rattle.weight.specs.Weight.{isWeight}
 use Rattle.weight.proofs.Tests.{both, and-intro, if-ind}
 use Rattle.weight.proofs.Signed.{abs-add}
-use Rattle.tally.specs.Tally.{graded, total, tallyFit, hasRoom, isGrade, largestWith, smallestWith, countedWith, weighedWith, added}
+use Rattle.tally.specs.Tally.{graded, total, tallyFit, hasRoom, isGrade, largestWith, smallestWith, countedWith, weighedWith, added, isVerdict}
 use Rattle.tally.specs.Steps.{noneIsZero}
 use Rattle.tally.specs.declared.tally.Tally.{Tally}
 use Rattle.tally.proofs.Facts.{FitTally, fit-tells, square-le}
 use Rattle.tally.proofs.Ones.{ones, grade-ones}
 
-module _ (t : Tally) (v : ℕ) (net : ℤ) (f : tallyFit t ≡ true) (verdict : within 1 8 v ≡ true) (w : isWeight net ≡ true) (room : hasRoom t ≡ true) where
+module _ (t : Tally) (v : ℕ) (net : ℤ) (f : tallyFit t ≡ true) (verdict : isVerdict v ≡ true) (w : isWeight net ≡ true) (room : hasRoom t ≡ true) where
   below : total t < 999999
   unfolding hasRoom
   below = ltb-true (total t) 999999 room

@@ -7,10 +7,10 @@ use lib.Dec.{T, leb}
 use borrow.Author.Tests.{leb-true, le-leb, lt-leb, ne-eqb}
 use Rattle.weight.specs.Choice.{if_then_else_, within}
 use Rattle.weight.proofs.Tests.{both}
-use Rattle.tally.specs.Tally.{one}
+use Rattle.tally.specs.Tally.{one, isVerdict}
 
 -- a verdict from 1 to 8 is one of the eight
-pub ones : (v : ℕ) → within 1 8 v ≡ true → one v 1 + one v 2 + one v 3 + one v 4 + one v 5 + one v 6 + one v 7 + one v 8 ≡ 1
+pub ones : (v : ℕ) → isVerdict v ≡ true → one v 1 + one v 2 + one v 3 + one v 4 + one v 5 + one v 6 + one v 7 + one v 8 ≡ 1
 ones zero h = absurd (subst T (sym h) tt)
 ones (suc zero) h = refl
 ones (suc (suc zero)) h = refl

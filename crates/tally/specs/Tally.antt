@@ -52,6 +52,10 @@ tallyFit t =
 unfoldable pub hasRoom : Tally → Bool
 hasRoom t = ltb (total t) 999999
 
+-- "A verdict (outcome 1 to 8)"
+abbrev pub isVerdict : ℕ → Bool
+isVerdict v = within 1 8 v
+
 -- a graded verdict is one of 1 to 5
 abbrev pub isGrade : ℕ → Bool
 isGrade v = within 1 5 v
@@ -112,4 +116,4 @@ added t v net = if isGrade v then weighedWith (countedWith t v) net else counted
 -- a verdict noted in a tally: tallied, or left out where there is no room (or no fit tally, verdict or net)
 unfoldable pub notedOf : Tally → ℕ → ℤ → Noted
 notedOf t v net =
-    if tallyFit t && within 1 8 v && isWeight net && hasRoom t then Tallied (added t v net) else Untallied
+    if tallyFit t && isVerdict v && isWeight net && hasRoom t then Tallied (added t v net) else Untallied

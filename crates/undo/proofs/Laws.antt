@@ -1,25 +1,20 @@
 -- What the answers of `tallies::read` and `Tally::noted` tell of a verdict, and what noting and putting back leave where all is fit. Assumes nothing.
 use mathlib.Core.Path.{_≡_, refl, sym, _∙_}
-use mathlib.Core.Bool.{Bool, true, false, _&&_}
+use mathlib.Core.Bool.{true, false, _&&_}
 use mathlib.Core.List.{List}
 use Prim.Native.Nat.{ℕ}
-use native.Mathlib.Omega.{arith}
 use lib.IntN.{ℤ}
-use Rattle.weight.specs.Choice.{if_then_else_, within}
 use Rattle.weight.specs.Weight.{isWeight}
-use Rattle.weight.proofs.Tests.{both, by-cases}
-use Rattle.tally.specs.Tally.{tallyFit, hasRoom, added, notedOf}
+use Rattle.weight.proofs.Tests.{both, by-cases, clash}
+use Rattle.tally.specs.Tally.{tallyFit, hasRoom, added, notedOf, isVerdict}
 use Rattle.tally.proofs.Added.{added-fit}
 use Rattle.tally.specs.declared.tally.Tally.{Tally}
 use Rattle.tally.specs.declared.tally.Noted.the-variants.{Tallied, Untallied}
 use Rattle.tallies.specs.Memory.{part, unsigned, lies, tallyAt, tallyAtFit, lentAt, withTally, written}
 use Rattle.tallies.specs.declared.Lent.the-variants.{Fit, Unfit}
-use Rattle.undo.specs.Undo.{undoFit, takes, keptOf, notedIn, restored, putBack}
+use Rattle.undo.specs.Undo.{undoFit, takes, restored, putBack}
 use Rattle.undo.specs.declared.Undo.{Undo}
 use Rattle.undo.specs.declared.Undo.the-variants.{Nothing, Kept}
-
-clash : {A : Type 0} → _≡_ {A = ℕ} 0 1 → A
-clash z = absurd (omega arith)
 
 module _ (ts : List ℤ) (c : ℕ) where
   -- code's part is there and fit
@@ -46,7 +41,7 @@ module _ (ts : List ℤ) (c : ℕ) where
         (λ f. rw f refl)
 
     -- where code's part is fit, the verdict is taken as its tally takes it
-    asked : Reads → takes ts c v net ≡ (tallyFit (tallyAt ts c) && within 1 8 v && isWeight net && hasRoom (tallyAt ts c))
+    asked : Reads → takes ts c v net ≡ (tallyFit (tallyAt ts c) && isVerdict v && isWeight net && hasRoom (tallyAt ts c))
     unfolding takes
     asked r = rw (r .0, r .1, at-fit (r .1)) refl
 
@@ -54,7 +49,7 @@ module _ (ts : List ℤ) (c : ℕ) where
     unfolding notedOf
     untaken t e m =
         let r = lent-fit t e in
-        asked (r .0) ∙ by-cases (tallyFit (tallyAt ts c) && within 1 8 v && isWeight net && hasRoom (tallyAt ts c))
+        asked (r .0) ∙ by-cases (tallyFit (tallyAt ts c) && isVerdict v && isWeight net && hasRoom (tallyAt ts c))
         (λ y. let g : Untallied ≡ Tallied (added (tallyAt ts c) v net) = sym (rw (r .1) at m) ∙ rw y refl in clash (cc))
         (λ f. f)
 
@@ -64,19 +59,19 @@ module _ (ts : List ℤ) (c : ℕ) where
     taken t next e m =
         let r = lent-fit t e in
         let u = tallyAt ts c in
-        by-cases (tallyFit u && within 1 8 v && isWeight net && hasRoom u)
+        by-cases (tallyFit u && isVerdict v && isWeight net && hasRoom u)
         (λ y.
         let g : Tallied next ≡ Tallied (added u v net) = sym (rw (r .1) at m) ∙ rw y refl in
         let same : next ≡ added u v net = cc in
-        let h₃ = both (tallyFit u && within 1 8 v && isWeight net) (hasRoom u) y in
-        let h₂ = both (tallyFit u && within 1 8 v) (isWeight net) (h₃ .0) in
-        let h₁ = both (tallyFit u) (within 1 8 v) (h₂ .0) in
+        let h₃ = both (tallyFit u && isVerdict v && isWeight net) (hasRoom u) y in
+        let h₂ = both (tallyFit u && isVerdict v) (isWeight net) (h₃ .0) in
+        let h₁ = both (tallyFit u) (isVerdict v) (h₂ .0) in
         let f : tallyFit next ≡ true = rw same (added-fit u v net (h₁ .0) (h₁ .1) (h₂ .1) (h₃ .1)) in
         (asked (r .0) ∙ y, r .1, rw (r .0 .0, f, same) refl))
         (λ n. let g : Tallied next ≡ Untallied = sym (rw (r .1) at m) ∙ rw n refl in clash (cc))
 
     -- where all is fit, a verdict is taken while there is room
-    pub taken-by-room : lies ts c ≡ true → tallyAtFit ts c ≡ true → within 1 8 v ≡ true → isWeight net ≡ true → takes ts c v net ≡ hasRoom (tallyAt ts c)
+    pub taken-by-room : lies ts c ≡ true → tallyAtFit ts c ≡ true → isVerdict v ≡ true → isWeight net ≡ true → takes ts c v net ≡ hasRoom (tallyAt ts c)
     unfolding takes
     taken-by-room h f g w = rw (h, f, g, w) refl
 

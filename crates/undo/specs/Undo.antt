@@ -3,9 +3,9 @@ use Prim.Native.Nat.{ℕ}
 use mathlib.Core.Bool.{Bool, true, false, _&&_}
 use mathlib.Core.List.{List}
 use lib.IntN.{ℤ}
-use Rattle.weight.specs.Choice.{if_then_else_, within}
+use Rattle.weight.specs.Choice.{if_then_else_}
 use Rattle.weight.specs.Weight.{isWeight}
-use Rattle.tally.specs.Tally.{tallyFit, hasRoom, added}
+use Rattle.tally.specs.Tally.{tallyFit, hasRoom, added, isVerdict}
 use Rattle.tallies.specs.Memory.{lies, tallyAt, tallyAtFit, withTally}
 use Rattle.undo.specs.declared.Undo.{Undo}
 use Rattle.undo.specs.declared.Undo.the-variants.{Nothing, Kept}
@@ -22,7 +22,7 @@ undoFit (Kept t) = tallyFit t
 
 -- a code's tally takes verdict v with its net: both are fit, and fewer than 999,999 verdicts are there
 unfoldable pub takes : List ℤ → ℕ → ℕ → ℤ → Bool
-takes ts c v net = lies ts c && tallyAtFit ts c && within 1 8 v && isWeight net && hasRoom (tallyAt ts c)
+takes ts c v net = lies ts c && tallyAtFit ts c && isVerdict v && isWeight net && hasRoom (tallyAt ts c)
 
 -- what is kept of a verdict: the code's tally as before it, if it was tallied
 abbrev pub keptOf : List ℤ → ℕ → ℕ → ℤ → Undo

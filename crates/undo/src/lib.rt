@@ -48,13 +48,13 @@ pub fn note(tallies: &mut [i64], code: u64, verdict: u64, net: i64) -> Undo
     ensures memory { λ r. ⌜ now (tallies .exit) ≡ notedIn (now (tallies .entry)) code verdict net ⌝ }
 {
     let lent = tallies::read(&*tallies, code);
-    let Lent::Fit(t) = lent else {
+    let Lent::Fit(before) = lent else {
         return Undo::Nothing;
     };
-    let noted = t.noted(verdict, net);
+    let noted = before.noted(verdict, net);
     let Noted::Tallied(next) = noted else {
         return Undo::Nothing;
     };
     tallies::write(tallies, code, next);
-    Undo::Kept(t)
+    Undo::Kept(before)
 }

@@ -1,6 +1,8 @@
 -- What a test that was passed tells. Assumes nothing.
 use mathlib.Core.Path.{_≡_, refl, sym, subst}
 use mathlib.Core.Bool.{Bool, true, false, _&&_}
+use Prim.Native.Nat.{ℕ}
+use native.Mathlib.Omega.{arith}
 use lib.Dec.{T}
 use Rattle.weight.specs.Choice.{if_then_else_}
 
@@ -21,3 +23,7 @@ if-ind P false x y f g = g refl
 pub by-cases : {A : Type 0} (b : Bool) → (b ≡ true → A) → (b ≡ false → A) → A
 by-cases true f g = f refl
 by-cases false f g = g refl
+
+-- 0 is not 1: what follows where two different variants are said to be one, whose tags `cc` compares
+pub clash : {A : Type 0} → _≡_ {A = ℕ} 0 1 → A
+clash z = absurd (omega arith)

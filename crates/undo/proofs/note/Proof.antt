@@ -1,8 +1,7 @@
 -- `note` reads code's tally, adds the verdict and writes it back, and keeps the tally as it was read. Assumes nothing.
 use borrow.Author.Needs.{needs}
-use mathlib.Core.Path.{_≡_, refl, sym, _∙_, ap}
+use mathlib.Core.Path.{refl, sym, _∙_, ap}
 use mir.Facts.{toZ-ofZ}
-use Rattle.tallies.specs.Memory.{written}
 use Rattle.undo.specs.declared.Undo.the-variants.{Kept}
 use Rattle.undo.proofs.Laws.{unread, untaken, taken}
 use Rattle.undo.proofs.note.Statement.{statement}

@@ -4,10 +4,9 @@ use mathlib.Core.Path.{_≡_, sym, ap, _∙_}
 use mathlib.Core.Bool.{true, false, _&&_}
 use borrow.Author.Tests.{leb-true, not-true, not-false}
 use mir.Facts.{toZ-ofZ}
-use Rattle.weight.specs.Choice.{within}
 use Rattle.weight.specs.Weight.{isWeight}
 use Rattle.weight.proofs.Tests.{both}
-use Rattle.tally.specs.Tally.{tallyFit, hasRoom, notedOf}
+use Rattle.tally.specs.Tally.{tallyFit, hasRoom, notedOf, isVerdict}
 use Rattle.tally.proofs.Facts.{fit-tells}
 use Rattle.tally.proofs.tally.Tally.noted.Statement.{statement}
 use Rattle.tally.proofs.tally.Tally.noted.Tie as tie
@@ -18,7 +17,7 @@ fit-was c = sym (c .before .fit .ensures) ∙ not-false _ (c .if1 .left)
 weight-was : (c : tie.After-is-weight) → c .is-weight .result ≡ isWeight (c .before .before .before .args .net)
 weight-was c = c .is-weight .ensures ∙ ap isWeight (toZ-ofZ (c .before .before .before .fits .net))
 
-range-was : (c : tie.Else2) → within 1 8 (c .before .before .before .before .args .verdict) && isWeight (c .before .before .before .before .args .net) ≡ true
+range-was : (c : tie.Else2) → isVerdict (c .before .before .before .before .args .verdict) && isWeight (c .before .before .before .before .args .net) ≡ true
 range-was c = rw (← weight-was (c .before)) (not-false _ (c .if2 .left))
 
 fit-requires : tie.Need-fit-requires
@@ -37,7 +36,7 @@ returns-2 : tie.Need-returns-2
 unfolding notedOf
 returns-2 c =
     let a = c .before .before .before .before .args in
-    let h : within 1 8 (a .verdict) && isWeight (a .net) ≡ false = rw (← weight-was (c .before)) (not-true _ (c .if2 .taken)) in
+    let h : isVerdict (a .verdict) && isWeight (a .net) ≡ false = rw (← weight-was (c .before)) (not-true _ (c .if2 .taken)) in
     rw (fit-was (c .before .before), h)
 
 has-room-requires : tie.Need-has-room-requires
@@ -52,7 +51,7 @@ returns-3 c =
 added-requires : tie.Need-added-requires
 added-requires c κs =
     let s = c .before .before .before .before .before .before in
-    let w = both (within 1 8 (s .args .verdict)) (isWeight (s .args .net)) (range-was (c .before .before)) .1 in
+    let w = both (isVerdict (s .args .verdict)) (isWeight (s .args .net)) (range-was (c .before .before)) .1 in
     rw (toZ-ofZ (s .fits .net)) (fit-was (c .before .before .before .before), leb-true _ _ w)
 
 returns-4 : tie.Need-returns-4
