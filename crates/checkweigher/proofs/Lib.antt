@@ -1,3 +1,4 @@
+pub mod Bytes
 pub mod Sessions
 pub mod Lines
 pub mod Blocks

@@ -1,7 +1,9 @@
 // The lines of a block of input, each answered in its turn.
-ghost use Prim.Native.Nat.{_+_, _<_, _≤_};
+ghost use Prim.Native.Nat.{_≤_};
 ghost use mathlib.Core.Path.{_≡_};
-ghost use lib.ListN.{length};
+ghost use mathlib.Core.List.{[]};
+ghost use lib.ListN.{length, drop};
+ghost use Rattle.checkweigher.specs.Input.{holding, tookAll, lfAmong, endFrom, Ends, Begins, Follows, TookUpTo};
 use crate::output::room_made;
 use crate::output::write_out;
 use controller::Served;
@@ -18,36 +20,37 @@ pub(crate) struct Block {
 
 const LF: u8 = b'\n';
 
-// An LF is among the sixteen bytes from i on.
-fn lf_within(input: &[u8], i: usize) -> bool
-    requires { ⌜ i + 16 ≤ length (now input) ⌝ }
+// An LF is among sixteen bytes.
+fn has_lf(bytes: &[u8]) -> bool
+    requires { ⌜ length (now bytes) ≡ 16 ⌝ }
+    ensures { λ r. ⌜ r ≡ lfAmong (now (bytes .entry)) 16 ⌝ }
 {
-    (input[i] == LF)
-        | (input[i + 1] == LF)
-        | (input[i + 2] == LF)
-        | (input[i + 3] == LF)
-        | (input[i + 4] == LF)
-        | (input[i + 5] == LF)
-        | (input[i + 6] == LF)
-        | (input[i + 7] == LF)
-        | (input[i + 8] == LF)
-        | (input[i + 9] == LF)
-        | (input[i + 10] == LF)
-        | (input[i + 11] == LF)
-        | (input[i + 12] == LF)
-        | (input[i + 13] == LF)
-        | (input[i + 14] == LF)
-        | (input[i + 15] == LF)
+    (bytes[0] == LF)
+        | (bytes[1] == LF)
+        | (bytes[2] == LF)
+        | (bytes[3] == LF)
+        | (bytes[4] == LF)
+        | (bytes[5] == LF)
+        | (bytes[6] == LF)
+        | (bytes[7] == LF)
+        | (bytes[8] == LF)
+        | (bytes[9] == LF)
+        | (bytes[10] == LF)
+        | (bytes[11] == LF)
+        | (bytes[12] == LF)
+        | (bytes[13] == LF)
+        | (bytes[14] == LF)
+        | (bytes[15] == LF)
 }
 
 // The first place from `start` on, by sixteens, where an LF is that near or the block ends.
 fn near_end(input: &[u8], start: usize) -> usize
     requires { ⌜ start ≤ length (now input) ⌝ }
-    ensures { λ r. ⌜ (start ≤ r) × (r ≤ length (now (input .entry))) ⌝ }
+    ensures { λ r. ⌜ (r ≤ length (now (input .entry))) × (endFrom (now (input .entry)) r ≡ endFrom (now (input .entry)) start) ⌝ }
 {
     let mut i = start;
     while 16 <= input.len() - i {
-        if lf_within(input, i) {
+        if has_lf(&input[i..i + 16]) {
             return i;
         }
         i += 16;
@@ -58,7 +61,7 @@ fn near_end(input: &[u8], start: usize) -> usize
 // Where the line that begins at `start` ends: at its LF, or where the block ends.
 fn line_end(input: &[u8], start: usize) -> usize
     requires { ⌜ start ≤ length (now input) ⌝ }
-    ensures { λ r. ⌜ (start ≤ r) × (r ≤ length (now (input .entry))) ⌝ }
+    ensures { λ r. ⌜ r ≡ endFrom (now (input .entry)) start ⌝ }
 {
     let mut i = near_end(input, start);
     while i < input.len() {
@@ -80,8 +83,7 @@ pub(crate) struct Session {
 
 // The session at the first line of a block.
 pub(crate) fn begin(line: Line, input: &[u8]) -> Session
-    ensures order { λ r. ⌜ r .start ≤ r .end ⌝ }
-    ensures within { λ r. ⌜ r .end ≤ length (now (input .entry)) ⌝ }
+    ensures { λ r. ⌜ Begins line (now (input .entry)) r ⌝ }
 {
     let end = line_end(input, 0);
     Session {
@@ -103,9 +105,7 @@ fn behind(out: &[u8], at: usize, more: bool) -> usize {
 
 // The session behind the line that ends with the LF at `lf`, once it is answered.
 pub(crate) fn next(served: Served, input: &[u8], lf: usize, out: &[u8]) -> Session
-    ensures order { λ r. ⌜ r .start ≤ r .end ⌝ }
-    ensures within { λ r. ⌜ r .end ≤ length (now (input .entry)) ⌝ }
-    ensures further { λ r. ⌜ (lf < length (now (input .entry)) → lf < r .end) ⌝ }
+    ensures { λ r. ⌜ Follows (served .line) (now (input .entry)) lf r ⌝ }
 {
     let line = served.line;
     let n = input.len();
@@ -136,8 +136,8 @@ pub(crate) fn serve_lines(
     input: &[u8],
     out: &mut [u8],
 ) -> Session
-    requires { ⌜ (session .start ≤ session .end) × (session .end ≤ length (now input)) ⌝ }
-    ensures { λ r. ⌜ r .start ≤ length (now (input .entry)) ⌝ }
+    requires { ⌜ Ends (now input) session ⌝ }
+    ensures { λ r. ⌜ TookUpTo (tookAll (holding (session .line) (now (records .entry)) (now (tallies .entry)) []) (drop (session .start) (now (input .entry)))) (now (input .entry)) (r .line) (now (records .exit)) (now (tallies .exit)) (r .start) ⌝ }
 {
     let mut s = session;
     while s.end < input.len() {
@@ -149,7 +149,7 @@ pub(crate) fn serve_lines(
 
 // A session's end with the records that were lent to it. Whole values go in and out, which keeps the walk of `serve_block` small.
 pub(crate) fn rest(last: Session, settings: [Settings; 100]) -> Block
-    ensures { λ r. ⌜ r .start ≡ last .start ⌝ }
+    ensures { λ r. ⌜ (r .line ≡ last .line) × (r .settings ≡ settings) × (r .start ≡ last .start) ⌝ }
 {
     let line = last.line;
     Block {
@@ -167,7 +167,7 @@ pub(crate) fn serve_block(
     input: &[u8],
     out: &mut [u8],
 ) -> Block
-    ensures { λ r. ⌜ r .start ≤ length (now (input .entry)) ⌝ }
+    ensures { λ r. ⌜ TookUpTo (tookAll (holding line settings (now (tallies .entry)) []) (now (input .entry))) (now (input .entry)) (r .line) (r .settings) (now (tallies .exit)) (r .start) ⌝ }
 {
     let mut records = settings;
     let session = begin(line, input);

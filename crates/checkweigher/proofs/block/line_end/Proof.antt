@@ -1,12 +1,16 @@
--- `line_end` stays between its start and the end of the block. Assumes nothing.
+-- `line_end` goes on to the first LF, or to the end. Assumes nothing.
 use borrow.Author.Needs.{needs}
+use mathlib.Core.Path.{_≡_, sym, _∙_}
 use Prim.Native.Nat.{_-_, _≤_}
 use lib.ListN.{length}
+use borrow.Author.Tests.{eq-eqb, ne-eqb}
+use Rattle.checkweigher.specs.Input.{endFrom}
+use Rattle.checkweigher.proofs.Bytes.{goes-on, ends-here, ends-last}
 use Rattle.checkweigher.proofs.block.line_end.Statement.{statement}
 use Rattle.checkweigher.proofs.block.line_end.Tie as tie
 
 abbrev Inv-loop : tie.InvT-loop
-Inv-loop input start i₀ i = (start ≤ i) × (i ≤ length input)
+Inv-loop input start i₀ i = (i ≤ length input) × (endFrom input i ≡ endFrom input start)
 
 abbrev μ-loop : tie.MeasureT-loop
 μ-loop input start i₀ i = length input - i
@@ -21,7 +25,10 @@ shared-slice-read-if1 : tie.Need-shared-slice-read-if1 Inv-loop μ-loop
 shared-slice-read-if1 c = search needs
 
 returns : tie.Need-returns Inv-loop μ-loop
-returns c = search needs
+returns c =
+    let l = c .before .before .before .loop in
+    let input = c .before .before .before .before .before .before .args .input .now in
+    sym (ends-here input (l .i) (search needs) (eq-eqb _ 10 (c .if1 .taken))) ∙ l .inv .1
 
 add-i : tie.Need-add-i Inv-loop μ-loop
 add-i c = search needs
@@ -30,10 +37,15 @@ loop-less : tie.Need-loop-less Inv-loop μ-loop
 loop-less c = search needs
 
 loop-again : tie.Need-loop-again Inv-loop μ-loop
-loop-again c = search needs
+loop-again c =
+    let l = c .before .before .before .loop in
+    let input = c .before .before .before .before .before .before .args .input .now in
+    (search needs, goes-on input (l .i) (search needs) (ne-eqb _ 10 (c .if1 .left)) ∙ l .inv .1)
 
 returns-2 : tie.Need-returns-2 Inv-loop μ-loop
-returns-2 c = search needs
+returns-2 c =
+    let l = c .before .loop in
+    sym (ends-last (c .before .before .before .before .args .input .now) (l .i) (search needs)) ∙ l .inv .1
 
 pub line-end-spec : {M : Type 1} → statement M
 line-end-spec =

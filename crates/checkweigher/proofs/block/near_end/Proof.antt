@@ -1,12 +1,16 @@
--- `near_end` stays between its start and the end of the block. Assumes nothing.
+-- `near_end` goes on while the line of text does: its end stays the same. Assumes nothing.
 use borrow.Author.Needs.{needs}
-use Prim.Native.Nat.{_-_, _≤_}
+use mathlib.Core.Path.{_≡_, sym, _∙_}
+use Prim.Native.Nat.{_+_, _-_, _≤_}
+use native.Mathlib.Omega.{arith}
 use lib.ListN.{length}
+use Rattle.checkweigher.specs.Input.{endFrom}
+use Rattle.checkweigher.proofs.Bytes.{skips}
 use Rattle.checkweigher.proofs.block.near_end.Statement.{statement}
 use Rattle.checkweigher.proofs.block.near_end.Tie as tie
 
 abbrev Inv-loop : tie.InvT-loop
-Inv-loop input start i₀ i = (start ≤ i) × (i ≤ length input)
+Inv-loop input start i₀ i = (i ≤ length input) × (endFrom input i ≡ endFrom input start)
 
 abbrev μ-loop : tie.MeasureT-loop
 μ-loop input start i₀ i = length input - i
@@ -17,8 +21,20 @@ loop-holds c = search needs
 sub-loop : tie.Need-sub-loop Inv-loop μ-loop
 sub-loop c = search needs
 
-lf-within-requires : tie.Need-lf-within-requires Inv-loop μ-loop
-lf-within-requires c κs = search needs
+add-has-lf : tie.Need-add-has-lf Inv-loop μ-loop
+add-has-lf c = search needs
+
+sub-has-lf : tie.Need-sub-has-lf Inv-loop μ-loop
+sub-has-lf c = search needs
+
+part-has-lf-start : tie.Need-part-has-lf-start Inv-loop μ-loop
+part-has-lf-start c = search needs
+
+part-has-lf-end : tie.Need-part-has-lf-end Inv-loop μ-loop
+part-has-lf-end c = search needs
+
+has-lf-requires : tie.Need-has-lf-requires Inv-loop μ-loop
+has-lf-requires c κs = search needs
 
 returns : tie.Need-returns Inv-loop μ-loop
 returns c = search needs
@@ -30,7 +46,12 @@ loop-less : tie.Need-loop-less Inv-loop μ-loop
 loop-less c = search needs
 
 loop-again : tie.Need-loop-again Inv-loop μ-loop
-loop-again c = search needs
+loop-again c =
+    let l = c .before .before .before .before .loop in
+    let input = c .before .before .before .before .before .before .args .input .now in
+    let size : l .i + 16 - l .i ≡ 16 = omega arith in
+    let none = rw size at (sym (c .before .has-lf .ensures) ∙ c .if1 .left) in
+    (search needs, skips input (l .i) (search needs) none ∙ l .inv .1)
 
 returns-2 : tie.Need-returns-2 Inv-loop μ-loop
 returns-2 c = search needs
@@ -43,7 +64,11 @@ near-end-spec =
     μ-loop
     loop-holds
     sub-loop
-    lf-within-requires
+    add-has-lf
+    sub-has-lf
+    part-has-lf-start
+    part-has-lf-end
+    has-lf-requires
     returns
     add-i
     loop-less

@@ -1,0 +1,29 @@
+-- `next` goes to the line of text behind the LF; where there is none, to the end of the input. Assumes nothing.
+use borrow.Author.Needs.{needs}
+use mathlib.Core.Path.{refl, sym}
+use native.Mathlib.Omega.{arith}
+use lib.ListN.{length}
+use Rattle.checkweigher.proofs.Bytes.{ends-last}
+use Rattle.checkweigher.proofs.block.next.Statement.{statement}
+use Rattle.checkweigher.proofs.block.next.Tie as tie
+
+add-start : tie.Need-add-start
+add-start c = search needs
+
+line-end-requires : tie.Need-line-end-requires
+line-end-requires c κs = search needs
+
+behind-requires : tie.Need-behind-requires
+behind-requires c κs = search needs
+
+returns : tie.Need-returns
+returns c = search needs
+
+returns-2 : tie.Need-returns-2
+returns-2 c =
+    let a = c .before .before .before .before .args in
+    let n = length (a .input .now) in
+    (refl, λ h. absurd (search needs), (omega arith, sym (ends-last (a .input .now) n (omega arith))))
+
+pub next-spec : {M : Type 1} → statement M
+next-spec = tie.close (tie.spec add-start line-end-requires behind-requires returns returns-2)
