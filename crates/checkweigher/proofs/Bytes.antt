@@ -14,7 +14,8 @@ use Rattle.line.specs.declared.line.Line.{Line}
 use Rattle.text.specs.Read.{readLine}
 use Rattle.controller.specs.Serve.{lineAfter, recordsAfter, talliesAfter}
 use Rattle.text.proofs.Heads.{cut, never}
-use Rattle.checkweigher.specs.Input.{holding, answered, tookAll, lfAmong, lineLength, endFrom, Ends}
+use Rattle.checkweigher.specs.Input.{holding, answered, tookAll}
+use Rattle.checkweigher.specs.Sessions.{lfAmong, lineLength, endFrom, Ends}
 use Rattle.checkweigher.specs.declared.block.Session.{Session}
 
 neither : (a b : Bool) → a || b ≡ false → (a ≡ false) × (b ≡ false)

@@ -38,7 +38,7 @@ use Rattle.controller.specs.declared.Served.{Served}
 use Rattle.controller.proofs.Served as O
 use Rattle.controller.proofs.Served.Laws as O′
 use Rattle.controller.proofs.serve as serve
-use Rattle.checkweigher.specs.Input.{Follows}
+use Rattle.checkweigher.specs.Sessions.{Follows}
 use Rattle.checkweigher.specs.declared.block.Session.{Session}
 use Rattle.checkweigher.proofs.block.Session as S
 use Rattle.checkweigher.proofs.block.Session.Laws as S′

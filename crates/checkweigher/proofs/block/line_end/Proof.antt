@@ -4,7 +4,7 @@ use mathlib.Core.Path.{_≡_, sym, _∙_}
 use Prim.Native.Nat.{_-_, _≤_}
 use lib.ListN.{length}
 use borrow.Author.Tests.{eq-eqb, ne-eqb}
-use Rattle.checkweigher.specs.Input.{endFrom}
+use Rattle.checkweigher.specs.Sessions.{endFrom}
 use Rattle.checkweigher.proofs.Bytes.{goes-on, ends-here, ends-last}
 use Rattle.checkweigher.proofs.block.line_end.Statement.{statement}
 use Rattle.checkweigher.proofs.block.line_end.Tie as tie

@@ -4,7 +4,7 @@ use mathlib.Core.Path.{_≡_, sym, _∙_}
 use Prim.Native.Nat.{_+_, _-_, _≤_}
 use native.Mathlib.Omega.{arith}
 use lib.ListN.{length}
-use Rattle.checkweigher.specs.Input.{endFrom}
+use Rattle.checkweigher.specs.Sessions.{endFrom}
 use Rattle.checkweigher.proofs.Bytes.{skips}
 use Rattle.checkweigher.proofs.block.near_end.Statement.{statement}
 use Rattle.checkweigher.proofs.block.near_end.Tie as tie
