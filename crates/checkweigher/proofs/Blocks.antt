@@ -28,7 +28,7 @@ use denote.Triple.Statement.{Contract}
 use denote.Triple.Clauses.{ensured, lasts}
 use Rattle.settings.specs.declared.Settings.{Settings}
 use Rattle.line.specs.declared.line.Line.{Line}
-use Rattle.checkweigher.specs.Input.{holding, tookAll}
+use Rattle.controller.specs.Input.{holding, tookAll}
 use Rattle.checkweigher.specs.Sessions.{Ends, Begins, TookUpTo}
 use Rattle.checkweigher.specs.declared.block.Session.{Session}
 use Rattle.settings.proofs.Settings as T

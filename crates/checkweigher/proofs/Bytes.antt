@@ -12,9 +12,10 @@ use Rattle.weight.proofs.Tests.{by-cases}
 use Rattle.settings.specs.declared.Settings.{Settings}
 use Rattle.line.specs.declared.line.Line.{Line}
 use Rattle.text.specs.Read.{readLine}
+use Rattle.controller.proofs.Taking.{took-lf, took-other, took-none}
 use Rattle.controller.specs.Serve.{lineAfter, recordsAfter, talliesAfter}
 use Rattle.text.proofs.Heads.{cut, never}
-use Rattle.checkweigher.specs.Input.{holding, answered, tookAll}
+use Rattle.controller.specs.Input.{holding, answered, tookAll}
 use Rattle.checkweigher.specs.Sessions.{lfAmong, lineLength, endFrom, Ends}
 use Rattle.checkweigher.specs.declared.block.Session.{Session}
 
@@ -84,40 +85,28 @@ Answers line ss ts text k zs vs =
     (k ≡ lineAfter line ss ts (readLine text)) × (zs ≡ recordsAfter line ss ts (readLine text)) × (vs ≡ talliesAfter line ss ts (readLine text))
 
 module _ (line : Line) (ss : List Settings) (ts : List ℤ) where
-  took-lf : (text : List ℕ) (b : ℕ) (s : List ℕ) → eqb b 10 ≡ true → tookAll (holding line ss ts text) (b ∷ s) ≡ tookAll (answered line ss ts text) s
-  unfolding tookAll
-  took-lf text b s e = rw e refl
-
-  took-other : (text : List ℕ) (b : ℕ) (s : List ℕ) → eqb b 10 ≡ false → tookAll (holding line ss ts text) (b ∷ s) ≡ tookAll (holding line ss ts (text ++ b ∷ [])) s
-  unfolding tookAll
-  took-other text b s e = rw e refl
-
-  took-none : (text : List ℕ) → tookAll (holding line ss ts text) [] ≡ holding line ss ts text
-  unfolding tookAll
-  took-none text = refl
-
   -- up to its LF, behind the bytes before
   whole-line : (before bs : List ℕ) → lineLength bs < length bs
       → tookAll (holding line ss ts before) bs ≡ tookAll (answered line ss ts (before ++ take (lineLength bs) bs)) (drop (lineLength bs + 1) bs)
   whole-line before [] h = absurd (omega (arith, h, no-more))
   whole-line before (b ∷ s) h =
       by-cases (eqb b 10)
-      (λ y. rw (at-lf b s y, append-nil before) (took-lf before b s y))
+      (λ y. rw (at-lf b s y, append-nil before) (took-lf line ss ts before b s y))
       (λ n.
       let size : suc (lineLength s) + 1 ≡ suc (lineLength s + 1) = omega arith in
       rw (before-lf b s n, size) (
-      took-other before b s n
+      took-other line ss ts before b s n
       ∙ whole-line (before ++ b ∷ []) s (omega (arith, h, before-lf b s n))
       ∙ ap (λ (t : List ℕ). tookAll (answered line ss ts t) (drop (lineLength s + 1) s)) (append-assoc before (b ∷ []) (take (lineLength s) s))))
 
   -- without an LF
   no-line : (before bs : List ℕ) → lineLength bs ≡ length bs → tookAll (holding line ss ts before) bs ≡ holding line ss ts (before ++ bs)
-  no-line before [] h = rw (append-nil before) (took-none before)
+  no-line before [] h = rw (append-nil before) (took-none line ss ts before)
   no-line before (b ∷ s) h =
       by-cases (eqb b 10)
       (λ y. absurd (omega (arith, h, at-lf b s y)))
       (λ n.
-      took-other before b s n
+      took-other line ss ts before b s n
       ∙ no-line (before ++ b ∷ []) s (omega (arith, h, before-lf b s n))
       ∙ ap (λ (t : List ℕ). holding line ss ts t) (append-assoc before (b ∷ []) s))
 

@@ -9,7 +9,7 @@ use lib.ListN.{length, getD, drop}
 use Rattle.weight.specs.Choice.{if_then_else_}
 use Rattle.settings.specs.declared.Settings.{Settings}
 use Rattle.line.specs.declared.line.Line.{Line}
-use Rattle.checkweigher.specs.Input.{Progress, holding}
+use Rattle.controller.specs.Input.{Progress, holding}
 use Rattle.checkweigher.specs.declared.block.Session.{Session}
 
 -- an LF is among the first k bytes

@@ -3,7 +3,7 @@ ghost use Prim.Native.Nat.{_≤_};
 ghost use mathlib.Core.Path.{_≡_};
 ghost use mathlib.Core.List.{[]};
 ghost use lib.ListN.{length, drop};
-ghost use Rattle.checkweigher.specs.Input.{holding, tookAll};
+ghost use Rattle.controller.specs.Input.{holding, tookAll};
 ghost use Rattle.checkweigher.specs.Sessions.{lfAmong, endFrom, Ends, Begins, Follows, TookUpTo};
 use crate::output::room_made;
 use crate::output::write_out;

@@ -1,4 +1,5 @@
 pub mod Behind
+pub mod Taking
 pub mod Texts
 pub mod Memories
 pub mod Others

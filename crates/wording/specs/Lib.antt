@@ -1,3 +1,4 @@
 pub mod OneText
 pub mod Reading
 pub mod Printing
+pub mod Claim

@@ -1,9 +1,11 @@
-// The wording of the lines: each line that is taken has one text, and 01's example reads and prints as it stands there.
+// The wording of the lines: each line that is taken has one text, 01's example reads and prints as it stands there, and
+// demand 3 holds of every text that comes in.
 // The functions say nothing of the code: their contracts are theorems on the definitions that the reader and the
 // printer equal.
 ghost use Rattle.wording.specs.OneText.{OneText};
 ghost use Rattle.wording.specs.Reading.{Reading};
 ghost use Rattle.wording.specs.Printing.{Printing};
+ghost use Rattle.wording.specs.Claim.{TextClaim};
 
 // Each line that is taken has no other text.
 pub fn one_text()
@@ -18,4 +20,9 @@ pub fn lines_read()
 // What 01's example prints.
 pub fn lines_printed()
     ensures { λ _. ⌜ Printing ⌝ }
+{}
+
+// Behind every input the program holds what the events of its lines give, and the claim holds of them.
+pub fn claim_of_text()
+    ensures { λ _. ⌜ TextClaim ⌝ }
 {}

@@ -45,7 +45,7 @@ use denote.Triple.Walked.{says, Stays, stay-none-slice, gave-slice, stay-none, w
 use denote.Exit.{yes}
 use Rattle.settings.specs.declared.Settings.{Settings}
 use Rattle.line.specs.declared.line.Line.{Line}
-use Rattle.checkweigher.specs.Input.{holding, tookAll}
+use Rattle.controller.specs.Input.{holding, tookAll}
 use Rattle.checkweigher.specs.Sessions.{Begins, TookUpTo}
 use Rattle.checkweigher.specs.declared.block.Session.{Session}
 use Rattle.checkweigher.specs.declared.block.Block.{Block}

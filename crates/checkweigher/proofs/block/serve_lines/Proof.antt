@@ -54,7 +54,7 @@ use borrow.Table.Copies.{Halved}
 use Rattle.settings.specs.declared.Settings.{Settings}
 use Rattle.controller.specs.declared.Served.{Served}
 use Rattle.line.specs.declared.line.Line.{Line}
-use Rattle.checkweigher.specs.Input.{Progress, holding, tookAll}
+use Rattle.controller.specs.Input.{Progress, holding, tookAll}
 use Rattle.checkweigher.specs.Sessions.{Ends, Follows}
 use Rattle.checkweigher.specs.declared.block.Session.{Session}
 use Rattle.settings.proofs.Settings as T

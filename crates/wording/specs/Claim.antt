@@ -1,0 +1,42 @@
+-- Demand 3 for text: behind every input the program holds what the events of its lines give, from a fresh line and memory, and of these the claim holds.
+use Prim.Native.Nat.{ℕ}
+use mathlib.Core.Path.{_≡_}
+use mathlib.Core.List.{List, [], _∷_, _++_}
+use lib.Dec.{eqb}
+use lib.ListN.{replicate}
+use Rattle.weight.specs.Choice.{if_then_else_}
+use Rattle.settings.specs.Settings.{blank, settingsLength}
+use Rattle.tallies.specs.Memory.{zeros, talliesLength}
+use Rattle.event.specs.declared.Event.{Event}
+use Rattle.line.specs.Line.{freshLine}
+use Rattle.book.specs.Run.{World, run}
+use Rattle.book.specs.Claim.{Stands}
+use Rattle.text.specs.Read.{readLine}
+use Rattle.text.specs.declared.Read.{Read}
+use Rattle.text.specs.declared.Read.the-variants as read
+use Rattle.controller.specs.Input.{Progress, holding, tookAll}
+
+-- the event that a line of text says, if it says one
+abbrev pub eventIn : Read → List Event
+eventIn (read.Event e) = e ∷ []
+eventIn (read.Report code) = []
+eventIn read.Other = []
+
+-- the events of the lines that an input completes, where text is the line that has begun
+unfoldable pub eventsIn : List ℕ → List ℕ → List Event
+eventsIn text [] = []
+eventsIn text (b ∷ s) = if eqb b 10 then eventIn (readLine text) ++ eventsIn [] s else eventsIn (text ++ b ∷ []) s
+
+-- "from a fresh line and memory"
+abbrev pub fresh : Progress
+fresh = holding freshLine (replicate settingsLength blank) (zeros talliesLength) []
+
+-- the program holds the line and the memories of a world
+pub record Holds (p : Progress) (w : World) : Type 0 where
+  pub line : p .line ≡ w .line
+  pub records : p .records ≡ w .settings
+  pub tallies : p .tallies ≡ w .tallies
+
+pub record TextClaim : Type 0 where
+  pub held : (input : List ℕ) → Holds (tookAll fresh input) (run (eventsIn [] input))
+  pub stands : (input : List ℕ) → Stands (run (eventsIn [] input))
