@@ -23,15 +23,15 @@ neither : (a b : Bool) → a || b ≡ false → (a ≡ false) × (b ≡ false)
 neither false b h = (refl, h)
 neither true b h = never (sym h)
 
-at-lf : (b : ℕ) (s : List ℕ) → eqb b 10 ≡ true → lineLength (b ∷ s) ≡ 0
+pub at-lf : (b : ℕ) (s : List ℕ) → eqb b 10 ≡ true → lineLength (b ∷ s) ≡ 0
 unfolding lineLength
 at-lf b s e = rw e refl
 
-before-lf : (b : ℕ) (s : List ℕ) → eqb b 10 ≡ false → lineLength (b ∷ s) ≡ suc (lineLength s)
+pub before-lf : (b : ℕ) (s : List ℕ) → eqb b 10 ≡ false → lineLength (b ∷ s) ≡ suc (lineLength s)
 unfolding lineLength
 before-lf b s e = rw e refl
 
-no-more : lineLength [] ≡ 0
+pub no-more : lineLength [] ≡ 0
 unfolding lineLength
 no-more = refl
 
@@ -100,8 +100,8 @@ module _ (line : Line) (ss : List Settings) (ts : List ℤ) where
       ∙ ap (λ (t : List ℕ). tookAll (answered line ss ts t) (drop (lineLength s + 1) s)) (append-assoc before (b ∷ []) (take (lineLength s) s))))
 
   -- without an LF
-  no-line : (before bs : List ℕ) → lineLength bs ≡ length bs → tookAll (holding line ss ts before) bs ≡ holding line ss ts (before ++ bs)
-  no-line before [] h = rw (append-nil before) (took-none line ss ts before)
+  pub no-line : (before bs : List ℕ) → lineLength bs ≡ length bs → tookAll (holding line ss ts before) bs ≡ holding line ss ts (before ++ bs)
+  no-line before [] h = rw (append-nil before) (took-none (holding line ss ts before))
   no-line before (b ∷ s) h =
       by-cases (eqb b 10)
       (λ y. absurd (omega (arith, h, at-lf b s y)))

@@ -2,7 +2,10 @@
 // what is left moves to the front.
 ghost use Prim.Native.Nat.{_<_, _≤_};
 ghost use mathlib.Core.Path.{_≡_};
-ghost use lib.ListN.{length};
+ghost use mathlib.Core.List.{[]};
+ghost use lib.ListN.{length, take, drop};
+ghost use Rattle.controller.specs.Input.{holding, tookAll};
+ghost use Rattle.checkweigher.specs.Reads.{keptLength, cut};
 use crate::block::serve_block;
 use libc::STDIN_FILENO;
 use line::Line;
@@ -11,8 +14,9 @@ use settings::Settings;
 // A line over 120 bytes is refused whatever follows: so much of it stands for all of it.
 const KEPT: usize = 121;
 
+// How much is kept of a line so long.
 fn kept(length: usize) -> usize
-    ensures { λ r. ⌜ (r ≤ length) × (r ≤ 121) ⌝ }
+    ensures { λ r. ⌜ r ≡ keptLength length ⌝ }
 {
     if length < KEPT {
         return length;
@@ -23,7 +27,7 @@ fn kept(length: usize) -> usize
 // Moves what is left at `start` to the front, and answers how long it is.
 fn keep(input: &mut [u8], start: usize, end: usize) -> usize
     requires { ⌜ (start ≤ end) × (end ≤ length (now input)) ⌝ }
-    ensures { λ r. ⌜ (r ≤ 121) × (length (now (input .exit)) ≡ length (now (input .entry))) ⌝ }
+    ensures { λ r. ⌜ (r ≤ 121) × (length (now (input .exit)) ≡ length (now (input .entry))) × (take r (now (input .exit)) ≡ take 121 (drop start (take end (now (input .entry))))) ⌝ }
 {
     let n = kept(end - start);
     let mut i = 0;
@@ -34,14 +38,46 @@ fn keep(input: &mut [u8], start: usize, end: usize) -> usize
     i
 }
 
+// Reads more behind the bytes that are held, and answers where it ends.
 fn read_behind(input: &mut [u8], held: usize) -> usize
     requires { ⌜ held ≤ length (now input) ⌝ }
-    ensures { λ r. ⌜ (held ≤ r) × (r ≤ length (now (input .exit))) ⌝ }
+    ensures { λ r. ⌜ (held ≤ r) × (r ≤ length (now (input .exit))) × (take held (now (input .exit)) ≡ take held (now (input .entry))) ⌝ }
 {
     let rest = &mut input[held..];
     let got = libc::read(STDIN_FILENO, rest);
     let n = io::count(got, rest);
     held + n
+}
+
+// What is held between two reads: the line, the settings records, and how many bytes of a line of text stand at the front
+// of the input.
+struct Held {
+    line: Line,
+    settings: [Settings; 100],
+    held: usize,
+}
+
+// The input's first bytes up to `end`: the complete lines are answered, and what is left moves to the front.
+fn serve_read(
+    line: Line,
+    settings: [Settings; 100],
+    tallies: &mut [i64],
+    input: &mut [u8],
+    end: usize,
+    out: &mut [u8],
+) -> Held
+    requires { ⌜ end ≤ length (now input) ⌝ }
+    ensures { λ r. ⌜ (r .held ≤ 121) × (length (now (input .exit)) ≡ length (now (input .entry))) × (holding (r .line) (r .settings) (now (tallies .exit)) (take (r .held) (now (input .exit))) ≡ cut (tookAll (holding line settings (now (tallies .entry)) []) (take end (now (input .entry))))) ⌝ }
+{
+    let block = serve_block(line, settings, &mut *tallies, &input[0..end], &mut *out);
+    let held = keep(&mut *input, block.start, end);
+    let next = block.line;
+    let records = block.settings;
+    Held {
+        line: next,
+        settings: records,
+        held: held,
+    }
 }
 
 // The last line, where no LF ends it.
@@ -77,10 +113,10 @@ pub(crate) fn serve_input() {
             serve_last(line, settings, &mut tallies, &mut input, held, &mut out);
             return;
         }
-        let block = serve_block(line, settings, &mut tallies, &input[0..end], &mut out);
-        line = block.line;
-        settings = block.settings;
-        held = keep(&mut input, block.start, end);
+        let next = serve_read(line, settings, &mut tallies, &mut input, end, &mut out);
+        line = next.line;
+        settings = next.settings;
+        held = next.held;
         reads -= 1;
     }
 }

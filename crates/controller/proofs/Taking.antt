@@ -1,5 +1,5 @@
 -- The input taken byte by byte: an LF, another byte, and the end. Assumes nothing.
-use mathlib.Core.Path.{_≡_, refl}
+use mathlib.Core.Path.{_≡_, refl, sym, ap, _∙_}
 use mathlib.Core.Bool.{true, false}
 use mathlib.Core.List.{List, [], _∷_, _++_}
 use Prim.Native.Nat.{ℕ}
@@ -7,17 +7,23 @@ use lib.Dec.{eqb}
 use lib.IntN.{ℤ}
 use Rattle.settings.specs.declared.Settings.{Settings}
 use Rattle.line.specs.declared.line.Line.{Line}
-use Rattle.controller.specs.Input.{holding, answered, tookAll}
+use Rattle.controller.specs.Input.{Progress, holding, answered, took, tookAll}
+
+pub took-one : (p : Progress) (b : ℕ) (s : List ℕ) → tookAll p (b ∷ s) ≡ tookAll (took p b) s
+unfolding tookAll
+took-one p b s = refl
+
+pub took-none : (p : Progress) → tookAll p [] ≡ p
+unfolding tookAll
+took-none p = refl
+
+pub took-both : (p : Progress) (s r : List ℕ) → tookAll p (s ++ r) ≡ tookAll (tookAll p s) r
+took-both p [] r = ap (λ (q : Progress). tookAll q r) (sym (took-none p))
+took-both p (b ∷ s) r = took-one p b (s ++ r) ∙ took-both (took p b) s r ∙ ap (λ (q : Progress). tookAll q r) (sym (took-one p b s))
 
 module _ (line : Line) (ss : List Settings) (ts : List ℤ) where
   pub took-lf : (text : List ℕ) (b : ℕ) (s : List ℕ) → eqb b 10 ≡ true → tookAll (holding line ss ts text) (b ∷ s) ≡ tookAll (answered line ss ts text) s
-  unfolding tookAll
-  took-lf text b s e = rw e refl
+  took-lf text b s e = took-one (holding line ss ts text) b s ∙ rw e refl
 
   pub took-other : (text : List ℕ) (b : ℕ) (s : List ℕ) → eqb b 10 ≡ false → tookAll (holding line ss ts text) (b ∷ s) ≡ tookAll (holding line ss ts (text ++ b ∷ [])) s
-  unfolding tookAll
-  took-other text b s e = rw e refl
-
-  pub took-none : (text : List ℕ) → tookAll (holding line ss ts text) [] ≡ holding line ss ts text
-  unfolding tookAll
-  took-none text = refl
+  took-other text b s e = took-one (holding line ss ts text) b s ∙ rw e refl

@@ -3,8 +3,12 @@ use Prim.Native.Nat.{ℕ}
 use mathlib.Core.List.{List, [], _∷_, _++_}
 use lib.Dec.{eqb}
 use lib.IntN.{ℤ}
+use lib.ListN.{replicate}
 use Rattle.weight.specs.Choice.{if_then_else_}
+use Rattle.settings.specs.Settings.{blank, settingsLength}
 use Rattle.settings.specs.declared.Settings.{Settings}
+use Rattle.tallies.specs.Memory.{zeros, talliesLength}
+use Rattle.line.specs.Line.{freshLine}
 use Rattle.line.specs.declared.line.Line.{Line}
 use Rattle.text.specs.Read.{readLine}
 use Rattle.controller.specs.Serve.{lineAfter, recordsAfter, talliesAfter}
@@ -18,6 +22,10 @@ pub record Progress : Type 0 where
 
 abbrev pub holding : Line → List Settings → List ℤ → List ℕ → Progress
 holding l ss ts text = record { line = l; records = ss; tallies = ts; text = text }
+
+-- "from a fresh line and memory"
+abbrev pub freshProgress : Progress
+freshProgress = holding freshLine (replicate settingsLength blank) (zeros talliesLength) []
 
 -- a complete line of text goes through the controller
 abbrev pub answered : Line → List Settings → List ℤ → List ℕ → Progress

@@ -14,7 +14,7 @@ pub struct Effect {
     pub net: i64,
 }
 
-fn bit(b: bool) -> u64
+pub(crate) fn bit(b: bool) -> u64
     ensures { λ r. ⌜ r ≡ bit b ⌝ }
 {
     if b {

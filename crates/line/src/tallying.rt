@@ -9,8 +9,8 @@ ghost use Rattle.tally.specs.Tally.{isVerdict};
 ghost use Rattle.tallies.specs.Memory.{talliesLength, tallyAt, tallyAtFit};
 ghost use Rattle.line.specs.Tallying.{stepIn, untallied, noted, recorded};
 use crate::effect::Effect;
+use crate::effect::bit;
 use crate::reply::Step;
-use undo::Undo;
 
 impl Effect {
     // The next line with a reply that tallies nothing.
@@ -33,23 +33,11 @@ impl Effect {
     {
         let line = self.line;
         let undo = undo::note(tallies, line.code, self.outcome, self.net);
-        match undo {
-            Undo::Kept(before) => {
-                let kept = line.with_undo(Undo::Kept(before));
-                let reply = self.replied(1);
-                Step {
-                    line: kept,
-                    reply: reply,
-                }
-            }
-            Undo::Nothing => {
-                let left = line.with_undo(Undo::Nothing);
-                let reply = self.replied(0);
-                Step {
-                    line: left,
-                    reply: reply,
-                }
-            }
+        let next = line.with_undo(undo);
+        let reply = self.replied(bit(!undo.is_nothing()));
+        Step {
+            line: next,
+            reply: reply,
         }
     }
 

@@ -49,7 +49,7 @@ line-runs w s (read.Report code) rest = rest w
 line-runs w s read.Other rest = rest w
 
 runs : (text s : List ℕ) (w : World) → Runs text s w
-runs text [] w = rw (took-none (w .line) (w .settings) (w .tallies) text, events-none text, ran-none w) (record { line = refl; records = refl; tallies = refl })
+runs text [] w = rw (took-none (holding (w .line) (w .settings) (w .tallies) text), events-none text, ran-none w) (record { line = refl; records = refl; tallies = refl })
 runs text (b ∷ s) w =
     by-cases (eqb b 10)
     (λ y. rw (took-lf (w .line) (w .settings) (w .tallies) text b s y, events-lf text b s y) (line-runs w s (readLine text) (runs [] s)))

@@ -3,18 +3,14 @@ use Prim.Native.Nat.{ℕ}
 use mathlib.Core.Path.{_≡_}
 use mathlib.Core.List.{List, [], _∷_, _++_}
 use lib.Dec.{eqb}
-use lib.ListN.{replicate}
 use Rattle.weight.specs.Choice.{if_then_else_}
-use Rattle.settings.specs.Settings.{blank, settingsLength}
-use Rattle.tallies.specs.Memory.{zeros, talliesLength}
 use Rattle.event.specs.declared.Event.{Event}
-use Rattle.line.specs.Line.{freshLine}
 use Rattle.book.specs.Run.{World, run}
 use Rattle.book.specs.Claim.{Stands}
 use Rattle.text.specs.Read.{readLine}
 use Rattle.text.specs.declared.Read.{Read}
 use Rattle.text.specs.declared.Read.the-variants as read
-use Rattle.controller.specs.Input.{Progress, holding, tookAll}
+use Rattle.controller.specs.Input.{Progress, freshProgress, tookAll}
 
 -- the event that a line of text says, if it says one
 abbrev pub eventIn : Read → List Event
@@ -27,10 +23,6 @@ unfoldable pub eventsIn : List ℕ → List ℕ → List Event
 eventsIn text [] = []
 eventsIn text (b ∷ s) = if eqb b 10 then eventIn (readLine text) ++ eventsIn [] s else eventsIn (text ++ b ∷ []) s
 
--- "from a fresh line and memory"
-abbrev pub fresh : Progress
-fresh = holding freshLine (replicate settingsLength blank) (zeros talliesLength) []
-
 -- the program holds the line and the memories of a world
 pub record Holds (p : Progress) (w : World) : Type 0 where
   pub line : p .line ≡ w .line
@@ -38,5 +30,5 @@ pub record Holds (p : Progress) (w : World) : Type 0 where
   pub tallies : p .tallies ≡ w .tallies
 
 pub record TextClaim : Type 0 where
-  pub held : (input : List ℕ) → Holds (tookAll fresh input) (run (eventsIn [] input))
+  pub held : (input : List ℕ) → Holds (tookAll freshProgress input) (run (eventsIn [] input))
   pub stands : (input : List ℕ) → Stands (run (eventsIn [] input))

@@ -1,14 +1,21 @@
--- `serve_input` is safe and ends: what is kept of a line leaves room to read behind it. Assumes nothing.
+-- `serve_input` is safe and ends: what is kept of a line leaves room to read behind it. Whatever is read, what is held is what the bytes read so far give. Assumes nothing.
 use borrow.Author.Needs.{needs}
-use mathlib.Core.Path.{_≡_}
-use Prim.Native.Nat.{_≤_}
-use lib.ListN.{length}
+use mathlib.Core.Path.{_≡_, refl, sym, ap, _∙_}
+use mathlib.Core.List.{List, [], _++_}
+use Prim.Native.Nat.{ℕ, _+_, _-_, _≤_}
+use native.Mathlib.Omega.{arith}
+use lib.ListN.{length, take, drop}
+use lib.Seq.{take-add}
+use Rattle.tallies.specs.Memory.{zeros}
+use Rattle.controller.specs.Input.{holding, tookAll}
+use Rattle.checkweigher.specs.Reads.{cut, Reached}
+use Rattle.checkweigher.proofs.Cuts.{reached-fresh, reached-on}
 use Rattle.checkweigher.proofs.input.serve_input.Statement.{statement}
 use Rattle.checkweigher.proofs.input.serve_input.Tie as tie
 
 abbrev Inv-loop : tie.InvT-loop
 Inv-loop input₀ out₀ tallies₀ line₀ settings₀ held₀ reads₀ input out tallies line settings held reads =
-    (length input ≡ 65536) × (length out ≡ 65536) × (length tallies ≡ 1300) × (held ≤ 121)
+    (length input ≡ 65536) × (length out ≡ 65536) × (length tallies ≡ 1300) × (held ≤ 121) × Reached line settings tallies (take held input)
 
 abbrev μ-loop : tie.MeasureT-loop
 μ-loop input₀ out₀ tallies₀ line₀ settings₀ held₀ reads₀ input out tallies line settings held reads = reads
@@ -26,7 +33,8 @@ blank-requires : tie.Need-blank-requires Inv-loop μ-loop
 blank-requires c κs = search needs
 
 loop-holds : tie.Need-loop-holds Inv-loop μ-loop
-loop-holds c = search needs
+unfolding zeros
+loop-holds c = (search needs, search needs, refl, omega arith, rw (c .before .fresh .ensures, c .blank .ensures) reached-fresh)
 
 slice-aggregate-read-behind : tie.Need-slice-aggregate-read-behind Inv-loop μ-loop
 slice-aggregate-read-behind c = search needs
@@ -49,29 +57,17 @@ serve-last-requires c κs = search needs
 returns : tie.Need-returns Inv-loop μ-loop
 returns c = search needs
 
-slice-aggregate-serve-block : tie.Need-slice-aggregate-serve-block Inv-loop μ-loop
-slice-aggregate-serve-block c = search needs
+slice-aggregate-serve-read : tie.Need-slice-aggregate-serve-read Inv-loop μ-loop
+slice-aggregate-serve-read c = search needs
 
-sub-serve-block : tie.Need-sub-serve-block Inv-loop μ-loop
-sub-serve-block c = search needs
+slice-aggregate-serve-read-2 : tie.Need-slice-aggregate-serve-read-2 Inv-loop μ-loop
+slice-aggregate-serve-read-2 c = search needs
 
-part-serve-block-start : tie.Need-part-serve-block-start Inv-loop μ-loop
-part-serve-block-start c = search needs
+slice-aggregate-serve-read-3 : tie.Need-slice-aggregate-serve-read-3 Inv-loop μ-loop
+slice-aggregate-serve-read-3 c = search needs
 
-part-serve-block-end : tie.Need-part-serve-block-end Inv-loop μ-loop
-part-serve-block-end c = search needs
-
-slice-aggregate-serve-block-2 : tie.Need-slice-aggregate-serve-block-2 Inv-loop μ-loop
-slice-aggregate-serve-block-2 c = search needs
-
-serve-block-requires : tie.Need-serve-block-requires Inv-loop μ-loop
-serve-block-requires c κs = search needs
-
-slice-aggregate-keep : tie.Need-slice-aggregate-keep Inv-loop μ-loop
-slice-aggregate-keep c = search needs
-
-keep-requires : tie.Need-keep-requires Inv-loop μ-loop
-keep-requires c κs = search needs
+serve-read-requires : tie.Need-serve-read-requires Inv-loop μ-loop
+serve-read-requires c κs = search needs
 
 sub-reads : tie.Need-sub-reads Inv-loop μ-loop
 sub-reads c = search needs
@@ -80,7 +76,22 @@ loop-less : tie.Need-loop-less Inv-loop μ-loop
 loop-less c = search needs
 
 loop-again : tie.Need-loop-again Inv-loop μ-loop
-loop-again c = search needs
+loop-again c =
+    let l = c .before .before .before .before .before .before .before .before .before .before .before .before .before .before .loop in
+    let read = c .before .before .before .before .before .before .before .before .before .before .before .read-behind in
+    let served = c .before .before .before .before .before .serve-read in
+    let input = read .last .0 in
+    let new = take (read .result - l .held) (drop (l .held) input) in
+    let size : l .held + (read .result - l .held) ≡ read .result = omega (arith, read .ensures .0) in
+    let parts : take (read .result) input ≡ take (l .held) (l .input) ++ new =
+    ap (λ (k : ℕ). take k input) (sym size) ∙ take-add (l .held) (read .result - l .held) input ∙ ap (λ (t : List ℕ). t ++ new) (read .ensures .2) in (
+      search needs,
+      search needs,
+      search needs,
+      search needs,
+      reached-on (l .line) (l .settings) (l .tallies) (take (l .held) (l .input)) (l .inv .4) new _ _ _ _
+          (served .ensures .2 ∙ ap (λ (t : List ℕ). cut (tookAll (holding (l .line) (l .settings) (l .tallies) []) t)) parts),
+    )
 
 returns-2 : tie.Need-returns-2 Inv-loop μ-loop
 returns-2 c = search needs
@@ -103,14 +114,10 @@ serve-input-spec =
     slice-aggregate-serve-last-3
     serve-last-requires
     returns
-    slice-aggregate-serve-block
-    sub-serve-block
-    part-serve-block-start
-    part-serve-block-end
-    slice-aggregate-serve-block-2
-    serve-block-requires
-    slice-aggregate-keep
-    keep-requires
+    slice-aggregate-serve-read
+    slice-aggregate-serve-read-2
+    slice-aggregate-serve-read-3
+    serve-read-requires
     sub-reads
     loop-less
     loop-again

@@ -1,0 +1,23 @@
+-- Between two reads: of the line of text that has begun the first 121 bytes are kept. They stand for all of it, since a line over 120 bytes is refused whatever it holds.
+use mathlib.Core.Path.{_≡_}
+use mathlib.Core.List.{List}
+use Prim.Native.Nat.{ℕ}
+use lib.Dec.{ltb}
+use lib.IntN.{ℤ}
+use lib.ListN.{take}
+use Rattle.weight.specs.Choice.{if_then_else_}
+use Rattle.settings.specs.declared.Settings.{Settings}
+use Rattle.line.specs.declared.line.Line.{Line}
+use Rattle.controller.specs.Input.{Progress, holding, freshProgress, tookAll}
+
+-- how much is kept of a line so long
+abbrev pub keptLength : ℕ → ℕ
+keptLength n = if ltb n 121 then n else 121
+
+abbrev pub cut : Progress → Progress
+cut p = holding (p .line) (p .records) (p .tallies) (take 121 (p .text))
+
+-- what the program holds with this text at the front of its input is what the bytes read so far give
+pub record Reached (l : Line) (ss : List Settings) (ts : List ℤ) (text : List ℕ) : Type 0 where
+  pub input : List ℕ
+  pub held : holding l ss ts text ≡ cut (tookAll freshProgress input)
