@@ -17,7 +17,7 @@ keptLength n = if ltb n 121 then n else 121
 abbrev pub cut : Progress → Progress
 cut p = holding (p .line) (p .records) (p .tallies) (take 121 (p .text))
 
--- what the program holds with this text at the front of its input is what the bytes read so far give
+-- what the program holds, with this text at the front of its input, is what some bytes give: no contract names those that were read
 pub record Reached (l : Line) (ss : List Settings) (ts : List ℤ) (text : List ℕ) : Type 0 where
   pub input : List ℕ
   pub held : holding l ss ts text ≡ cut (tookAll freshProgress input)

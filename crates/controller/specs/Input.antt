@@ -1,4 +1,4 @@
--- 01, "Text lines": "from a fresh line and memory, reads lines from standard input, each up to LF". The input, byte by byte.
+-- 01, "Text lines": "from a fresh line and memory, reads lines from standard input, each up to LF or the end". The input, byte by byte; the end of the input is an LF where a line has begun.
 use Prim.Native.Nat.{ℕ}
 use mathlib.Core.List.{List, [], _∷_, _++_}
 use lib.Dec.{eqb}

@@ -20,7 +20,7 @@ unfoldable pub undoFit : Undo → Bool
 undoFit Nothing = true
 undoFit (Kept t) = tallyFit t
 
--- a code's tally takes verdict v with its net: both are fit, and fewer than 999,999 verdicts are there
+-- a code's tally takes verdict v with its net: memory, tally, verdict and net are fit, and fewer than 999,999 verdicts are there
 unfoldable pub takes : List ℤ → ℕ → ℕ → ℤ → Bool
 takes ts c v net = lies ts c && tallyAtFit ts c && isVerdict v && isWeight net && hasRoom (tallyAt ts c)
 

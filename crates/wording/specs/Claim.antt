@@ -1,4 +1,4 @@
--- Demand 3 for text: behind every input the program holds what the events of its lines give, from a fresh line and memory, and of these the claim holds.
+-- Demand 3 for text: behind every input the line and both memories are those that the events of its complete lines give, from a fresh line and memory, and of these the claim holds.
 use Prim.Native.Nat.{ℕ}
 use mathlib.Core.Path.{_≡_}
 use mathlib.Core.List.{List, [], _∷_, _++_}
@@ -23,7 +23,7 @@ unfoldable pub eventsIn : List ℕ → List ℕ → List Event
 eventsIn text [] = []
 eventsIn text (b ∷ s) = if eqb b 10 then eventIn (readLine text) ++ eventsIn [] s else eventsIn (text ++ b ∷ []) s
 
--- the program holds the line and the memories of a world
+-- the line and the memories are those of a world
 pub record Holds (p : Progress) (w : World) : Type 0 where
   pub line : p .line ≡ w .line
   pub records : p .records ≡ w .settings

@@ -1,4 +1,4 @@
--- `serve_input` is safe and ends: what is kept of a line leaves room to read behind it. Whatever is read, what is held is what the bytes read so far give. Assumes nothing.
+-- `serve_input` is safe and ends: what is kept of a line leaves room to read behind it. Whatever is read, what is held is what some bytes give: those before it, with those that `read_behind` put behind them. Assumes nothing.
 use borrow.Author.Needs.{needs}
 use mathlib.Core.Path.{_≡_, refl, sym, ap, _∙_}
 use mathlib.Core.List.{List, [], _++_}
