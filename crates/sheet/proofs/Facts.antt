@@ -1,7 +1,6 @@
--- What a tally that is fit for a report tells, and what reading it tells. Assumes nothing.
+-- What a tally that is fit for a report tells. Assumes nothing.
 use mathlib.Core.Path.{_≡_, refl}
 use mathlib.Core.Bool.{Bool, true, false, _&&_}
-use mathlib.Core.List.{List}
 use Prim.Native.Nat.{ℕ, _*_}
 use native.Mathlib.Omega.{arith}
 use lib.Dec.{leb, eqb}
@@ -17,9 +16,7 @@ use Rattle.settings.specs.Settings.{recordRanged, limitsOrdered, recordFit}
 use Rattle.settings.specs.declared.Settings.{Settings}
 use Rattle.spread.specs.Figures.{fitOf}
 use Rattle.tally.specs.Tally.{tallyFit}
-use Rattle.tallies.specs.Memory.{lies, lentAt, tallyAt, tallyAtFit}
 use Rattle.tally.specs.declared.tally.Tally.{Tally}
-use Rattle.tallies.specs.declared.Lent.the-variants.{Fit, Unfit}
 use Rattle.tally.proofs.Facts.{FitTally, fit-tells}
 use Rattle.sheet.specs.Sheet.{reportFit}
 use Rattle.sheet.specs.Steps.{weightOrNone, lessTarget}
@@ -55,23 +52,3 @@ target-weight r h = first (isWeight (r .target)) _ _ _ _ _ _ (both (recordRanged
     first : (a b c d e f g : Bool) → a && b && c && d && e && f && g ≡ true → a ≡ true
     first true b c d e f g h = refl
     first false b c d e f g h = h
-
--- what reading a code's part tells
-was-fit : (b : Bool) (x t : Tally) → (if b then Fit x else Unfit) ≡ Fit t → (b ≡ true) × (t ≡ x)
-was-fit true x t e = (refl, cc)
-was-fit false x t e = let z : _≡_ {A = ℕ} 0 1 = cc in absurd (omega arith)
-
-was-unfit : (b : Bool) (x : Tally) → (if b then Fit x else Unfit) ≡ Unfit → b ≡ false
-was-unfit true x e = let z : _≡_ {A = ℕ} 0 1 = cc in absurd (omega arith)
-was-unfit false x e = refl
-
-module _ (ts : List ℤ) (code : ℕ) where
-  pub lent-fit : (t : Tally) → lentAt ts code ≡ Fit t → (tallyAtFit ts code ≡ true) × (t ≡ tallyAt ts code)
-  unfolding lentAt
-  lent-fit t e =
-      let w = was-fit (lies ts code && tallyAtFit ts code) (tallyAt ts code) t e in
-      (both (lies ts code) (tallyAtFit ts code) (w .0) .1, w .1)
-
-  pub lent-unfit : lies ts code ≡ true → lentAt ts code ≡ Unfit → tallyAtFit ts code ≡ false
-  unfolding lentAt
-  lent-unfit l e = rw l at (was-unfit (lies ts code && tallyAtFit ts code) (tallyAt ts code) e)

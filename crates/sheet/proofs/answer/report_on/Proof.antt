@@ -9,10 +9,11 @@ use borrow.Author.Tests.{eq-eqb, ne-eqb, not-true, not-false}
 use Rattle.weight.proofs.Signed.{back}
 use Rattle.settings.specs.Settings.{recordFit}
 use Rattle.event.specs.Event.{isCode}
-use Rattle.tallies.specs.Memory.{tallyAt, tallyAtFit}
+use Rattle.tallies.specs.Memory.{lies, tallyAt, tallyAtFit}
 use Rattle.sheet.specs.Sheet.{reportFit}
 use Rattle.sheet.specs.Report.{reportSound, reportOf}
-use Rattle.sheet.proofs.Facts.{lent-fit, lent-unfit, target-weight}
+use Rattle.sheet.proofs.Facts.{target-weight}
+use Rattle.tallies.proofs.Readings.{lent-fit, lent-unfit}
 use Rattle.sheet.proofs.answer.report_on.Statement.{statement}
 use Rattle.sheet.proofs.answer.report_on.Tie as tie
 
@@ -74,8 +75,8 @@ returns-5 c =
     let z = sized (o .before .before .before .before) in
     let k = coded (o .before .before) in
     let a = o .before .before .before .before .before .before .args in
-    let h : tallyAtFit (now (a .tallies)) (a .code) ≡ false =
-    lent-unfit (now (a .tallies)) (a .code) (rw (k, z .tallies)) (sym (c .before .before .read .ensures) ∙ c .enum-told .given .1) in
+    let there : lies (now (a .tallies)) (a .code) ≡ true = rw (k, z .tallies) in
+    let h : tallyAtFit (now (a .tallies)) (a .code) ≡ false = rw there at (lent-unfit (now (a .tallies)) (a .code) (sym (c .before .before .read .ensures) ∙ c .enum-told .given .1)) in
     rw (z .settings, z .tallies, k, own-fit o, h)
 
 report-fit-requires : tie.Need-report-fit-requires
@@ -100,7 +101,7 @@ read c =
     let z = sized (o .before .before .before .before) in
     let a = start c .args in
     let f = lent-fit (now (a .tallies)) (a .code) (c .before .t .given .0 .0) (sym (c .before .before .before .read .ensures) ∙ c .before .t .given .1) in
-    record { settings = z .settings; tallies = z .tallies; code = coded (o .before .before); own = own-fit o; fit = f .0; tally = f .1 }
+    record { settings = z .settings; tallies = z .tallies; code = coded (o .before .before); own = own-fit o; fit = f .1; tally = f .2 }
 
 returns-6 : tie.Need-returns-6
 unfolding reportOf reportSound
