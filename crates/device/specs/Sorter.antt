@@ -1,7 +1,7 @@
 -- 01, step 4 and the queueing of verdicts: the sorter's queue of waits and its on-time.
 -- The queue has eight places. A place with 0 is free; the waits are what stands in the others, and their order is never seen.
 use Prim.Native.Nat.{ℕ, _-_}
-use mathlib.Core.Bool.{Bool, _&&_, _||_, true, false}
+use mathlib.Core.Bool.{Bool, _&&_, _||_, not, true, false}
 use mathlib.Core.List.{List, [], _∷_, map}
 use lib.Dec.{eqb, ltb, leb}
 use lib.ListN.{length, replicate}
@@ -12,6 +12,11 @@ use Rattle.device.specs.declared.sorter.Sorter.{Sorter}
 unfoldable pub waiting : List ℕ → List ℕ
 waiting [] = []
 waiting (w ∷ ws) = if eqb w 0 then waiting ws else w ∷ waiting ws
+
+-- something waits
+unfoldable pub anyWaits : List ℕ → Bool
+anyWaits [] = false
+anyWaits (w ∷ ws) = not (eqb w 0) || anyWaits ws
 
 -- "the queue holds 8"
 unfoldable pub full : Sorter → Bool

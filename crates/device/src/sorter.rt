@@ -2,7 +2,7 @@
 ghost use mathlib.Core.Path.{_≡_};
 ghost use mathlib.Core.List.{map};
 ghost use lib.ListN.{length};
-ghost use Rattle.device.specs.Sorter.{waiting, full, sorting, anyEnds, fallen, sorterTicked, placed, queued, sorterOff, waitsFit, sorterFit};
+ghost use Rattle.device.specs.Sorter.{waiting, anyWaits, full, sorting, anyEnds, fallen, sorterTicked, placed, queued, sorterOff, waitsFit, sorterFit};
 
 pub struct Sorter {
     pub waits: [u64; 8],
@@ -32,7 +32,7 @@ impl Sorter {
         ensures { λ r. ⌜ r ≡ sorting self ⌝ }
     {
         let w = self.waits;
-        (0 < count(w)) | (0 < self.on)
+        any_waits(w) | (0 < self.on)
     }
 
     // A running tick: all times fall, and a wait that ends puts the sorter on for `to`.
@@ -40,6 +40,12 @@ impl Sorter {
         ensures { λ r. ⌜ r ≡ sorterTicked self to ⌝ }
     {
         let w = self.waits;
+        if !any_waits(w) {
+            return Sorter {
+                waits: w,
+                on: fallen(self.on),
+            };
+        }
         let next = all_fallen(w);
         if any_ends(w) {
             return Sorter {
@@ -94,6 +100,16 @@ fn count(w: [u64; 8]) -> u64
         i += 1;
     }
     n
+}
+
+// Something waits: one test of all eight places.
+fn any_waits(w: [u64; 8]) -> bool
+    ensures { λ r. ⌜ r ≡ anyWaits w ⌝ }
+{
+    (w[0] != 0)
+        | ((w[1] != 0)
+            | ((w[2] != 0)
+                | ((w[3] != 0) | ((w[4] != 0) | ((w[5] != 0) | ((w[6] != 0) | (w[7] != 0)))))))
 }
 
 // Some wait reaches 0 as it falls.

@@ -33,10 +33,13 @@ impl Line {
         ensures { λ r. ⌜ r ≡ statusFit self ⌝ }
     {
         let halted = (self.status == Line::STOPPED) | (self.status == Line::EMERGENCY);
-        (self.status <= 3)
+        let known = (self.status <= 3)
             & error_known(self.error)
-            & ((self.status == Line::PAUSED) | (self.error == Line::NO_ERROR))
-            & !(halted & self.busy())
+            & ((self.status == Line::PAUSED) | (self.error == Line::NO_ERROR));
+        if halted {
+            return known & !self.busy();
+        }
+        known
     }
 
     // The setup is tested first: the bounds of an item rest on it.

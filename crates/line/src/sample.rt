@@ -6,7 +6,7 @@ ghost use Rattle.settings.specs.Settings.{recordFit};
 ghost use Rattle.event.specs.Setup.{setupFit};
 ghost use Rattle.event.specs.Sample.{sampleRanged};
 ghost use Rattle.line.specs.Fit.{itemFit, lineFit};
-ghost use Rattle.line.specs.Sample.{step1, edgeMade, foreignRises, step2, step3, step4, step5, step6, detecting, step7, runningTick, guarded, fromStep3, sampled};
+ghost use Rattle.line.specs.Sample.{step1, edgeMade, foreignRises, step4, step5, step6, detecting, step7, runningTick, sampled};
 use crate::effect::Effect;
 use crate::item::Item;
 use crate::item::Weighed;
@@ -45,29 +45,6 @@ impl Line {
             foreign: s.foreign,
         };
         self.with_sensed(settled, last)
-    }
-
-    // The emergency input.
-    fn step2(self, level: u64) -> Effect
-        ensures { λ r. ⌜ r ≡ step2 self level ⌝ }
-    {
-        if level == 1 {
-            return self.halting(Line::EMERGENCY);
-        }
-        if self.status == Line::EMERGENCY {
-            return self.halting(Line::STOPPED);
-        }
-        Effect::plain(self)
-    }
-
-    // The safety inputs.
-    fn step3(self) -> Line
-        ensures { λ r. ⌜ r ≡ step3 self ⌝ }
-    {
-        if mask::lowest_off(self.setup.need, self.last.safety) == 0 {
-            return self;
-        }
-        self.with_status(Line::PAUSED, 1)
     }
 
     // The sorter's times.
@@ -140,29 +117,6 @@ impl Line {
         Line::step7(weighed, made)
     }
 
-    // A running tick, unless step 3 ended the sample.
-    fn guarded(self, active: Settings, gross: i64, rises: bool, made: bool) -> Effect
-        requires { ⌜ (setupFit (self .setup) ≡ true) × (itemFit (self .item) (self .setup) ≡ true) × (recordFit active ≡ true) × (isWeight gross ≡ true) ⌝ }
-        ensures { λ r. ⌜ r ≡ guarded self active gross rises made ⌝ }
-    {
-        if self.status == Line::RUNNING {
-            return self.running_tick(active, gross, rises, made);
-        }
-        Effect::plain(self)
-    }
-
-    // What follows step 2: if the line is not running, the sample ends.
-    fn from_step3(e: Effect, active: Settings, gross: i64, rises: bool, made: bool) -> Effect
-        requires { ⌜ (setupFit (e .line .setup) ≡ true) × (itemFit (e .line .item) (e .line .setup) ≡ true) × (recordFit active ≡ true) × (isWeight gross ≡ true) ⌝ }
-        ensures { λ r. ⌜ r ≡ fromStep3 e active gross rises made ⌝ }
-    {
-        let line = e.line;
-        if line.status == Line::RUNNING {
-            return line.step3().guarded(active, gross, rises, made);
-        }
-        e
-    }
-
     pub(crate) fn sampled(self, active: Settings, s: Sample) -> Effect
         requires { ⌜ (lineFit self ≡ true) × (recordFit active ≡ true) × (sampleRanged s ≡ true) ⌝ }
         ensures { λ r. ⌜ r ≡ sampled self active s ⌝ }
@@ -170,6 +124,18 @@ impl Line {
         let rises = self.foreign_rises(s);
         let next = self.step1(s);
         let made = edge_made(self.setup.edge, self.sensor.level, next.sensor.level);
-        Line::from_step3(next.step2(s.emergency), active, s.gross, rises, made)
+        if s.emergency == 1 {
+            return next.halting(Line::EMERGENCY);
+        }
+        if next.status == Line::EMERGENCY {
+            return next.halting(Line::STOPPED);
+        }
+        if next.status != Line::RUNNING {
+            return Effect::plain(next);
+        }
+        if mask::lowest_off(next.setup.need, next.last.safety) != 0 {
+            return Effect::plain(next.with_status(Line::PAUSED, 1));
+        }
+        next.running_tick(active, s.gross, rises, made)
     }
 }

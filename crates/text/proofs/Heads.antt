@@ -26,7 +26,7 @@ pub cut : (line : List ℕ) (i : ℕ) → i < length line → drop i line ≡ ge
 cut line i h = rw (add-one, drop-cons line i 0)
 
 -- the byte at a place, where a test of the rest of the line is passed
-inside : (P : List ℕ → Bool) (line : List ℕ) (i : ℕ) → P [] ≡ false → P (drop i line) ≡ true → i < length line
+pub inside : (P : List ℕ → Bool) (line : List ℕ) (i : ℕ) → P [] ≡ false → P (drop i line) ≡ true → i < length line
 inside P line i empty h =
     elim (decLe (length line) i) [
       | yes le ↦ never (sym empty ∙ (rw (drop-of-length-le line le) at h))

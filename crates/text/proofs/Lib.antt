@@ -1,3 +1,4 @@
 pub mod Heads
 pub mod Filling
 pub mod Saying
+pub mod Keys

@@ -1,6 +1,6 @@
 -- The reader's parts in the terms of `Number` and `Form`.
 use Prim.Native.Nat.{ℕ}
-use mathlib.Core.Bool.{Bool, true, false, not, _&&_}
+use mathlib.Core.Bool.{Bool, true, false, not, _&&_, _||_}
 use mathlib.Core.List.{List, [], _∷_, map}
 use lib.ListN.{drop, take}
 use lib.Dec.{eqb}
@@ -54,3 +54,39 @@ fieldsValues form r = if r .ok then values (take (numbers (itemsOf form)) (r .va
 abbrev pub reads : Values → Bool
 reads other = false
 reads (values vs) = true
+
+-- the bytes of a key stand at the head of a text
+abbrev pub isPrefix : List ℕ → List ℕ → Bool
+isPrefix [] s = true
+isPrefix (k ∷ key) [] = false
+isPrefix (k ∷ key) (b ∷ s) = eqb b k && isPrefix key s
+
+-- 0 or 1 does
+abbrev pub isLevel : List ℕ → Bool
+isLevel [] = false
+isLevel (b ∷ s) = eqb b 48 || eqb b 49
+
+-- the keys of a sample as bytes: "sensor=", " emergency=", " safety=", " foreign=", " gross="
+abbrev pub sensorKey : List ℕ
+sensorKey = 115 ∷ 101 ∷ 110 ∷ 115 ∷ 111 ∷ 114 ∷ 61 ∷ []
+
+abbrev pub emergencyKey : List ℕ
+emergencyKey = 32 ∷ 101 ∷ 109 ∷ 101 ∷ 114 ∷ 103 ∷ 101 ∷ 110 ∷ 99 ∷ 121 ∷ 61 ∷ []
+
+abbrev pub safetyKey : List ℕ
+safetyKey = 32 ∷ 115 ∷ 97 ∷ 102 ∷ 101 ∷ 116 ∷ 121 ∷ 61 ∷ []
+
+abbrev pub foreignKey : List ℕ
+foreignKey = 32 ∷ 102 ∷ 111 ∷ 114 ∷ 101 ∷ 105 ∷ 103 ∷ 110 ∷ 61 ∷ []
+
+abbrev pub grossKey : List ℕ
+grossKey = 32 ∷ 103 ∷ 114 ∷ 111 ∷ 115 ∷ 115 ∷ 61 ∷ []
+
+-- a sample's text up to the value of safety, and between those of safety and gross, with levels for the other values
+abbrev pub headIs : List ℕ → Bool
+headIs s =
+    isPrefix sensorKey (drop 0 s)
+    && (isLevel (drop 7 s) && (isPrefix emergencyKey (drop 8 s) && (isLevel (drop 19 s) && isPrefix safetyKey (drop 20 s))))
+
+abbrev pub middleIs : List ℕ → Bool
+middleIs s = isPrefix foreignKey (drop 0 s) && (isLevel (drop 9 s) && isPrefix grossKey (drop 10 s))

@@ -3,6 +3,7 @@ use event::Event;
 
 mod form;
 mod number;
+mod quick;
 mod reader;
 
 pub use reader::read_line;

@@ -3,10 +3,10 @@ ghost use mathlib.Core.Path.{_≡_};
 ghost use Prim.Native.Nat.{_≤_, min};
 ghost use lib.ListN.{drop};
 ghost use Rattle.text.specs.Number.{isDigit, signed, digits, positive, numberHead, fourHead};
-ghost use Rattle.text.specs.Read.{limit};
+ghost use Rattle.text.specs.Read.{limit, unsigned};
 ghost use Rattle.text.specs.Views.{byteIs, digitFrom, heldHead, found, fourOf};
 
-pub(crate) const LIMIT: u64 = 1000000000;
+const LIMIT: u64 = 1000000000;
 
 // Nothing of the kind looked for, or its value and the place behind it.
 pub(crate) enum Found {
@@ -34,7 +34,7 @@ fn digit_at(line: &[u8], at: usize, low: u8) -> bool
     (low <= b) & (b <= 57)
 }
 
-fn wide(b: u8) -> u64
+pub(crate) fn wide(b: u8) -> u64
     ensures { λ r. ⌜ r ≡ b ⌝ }
 {
     b as u64
@@ -127,4 +127,14 @@ pub(crate) fn read_four(line: &[u8], at: usize) -> Found
         return Found::Nothing;
     }
     four_of(line[at], line[at + 1], line[at + 2], line[at + 3], at + 4)
+}
+
+// A negative value is too small for a field that is never negative, as the limit is too large.
+pub(crate) fn unsigned_of(value: i64) -> u64
+    ensures { λ r. ⌜ r ≡ unsigned value ⌝ }
+{
+    if value < 0 {
+        return LIMIT;
+    }
+    value as u64
 }

@@ -2,27 +2,29 @@
 ghost use mathlib.Core.Path.{_≡_};
 ghost use mathlib.Core.List.{[], _∷_};
 ghost use Rattle.text.specs.Form.{byte, lineValues};
-ghost use Rattle.text.specs.Read.{unsigned, sample, setup, store, report, codedCommands, commands, firstOf, readLine};
+ghost use Rattle.text.specs.Read.{sample, setup, store, report, codedCommands, commands, firstOf, readLine};
 ghost use Rattle.text.specs.Views.{reads};
 use crate::Read;
 use crate::form::read_form;
-use crate::number::LIMIT;
+use crate::number::unsigned_of;
+use crate::quick::quick_sample;
 use event::Event;
 use event::Sample;
 use event::Setup;
 use settings::Settings;
 
-// A negative value is too small for a field that is never negative, as the limit is too large.
-fn unsigned_of(value: i64) -> u64
-    ensures { λ r. ⌜ r ≡ unsigned value ⌝ }
+// Most lines are samples that `quick_sample` reads; its answer is the form's.
+fn read_sample(line: &[u8]) -> Read
+    ensures { λ r. ⌜ r ≡ firstOf (sample ∷ []) (now (line .entry)) ⌝ }
 {
-    if value < 0 {
-        return LIMIT;
+    let quick = quick_sample(line);
+    if let Read::Event(e) = quick {
+        return Read::Event(e);
     }
-    value as u64
+    sample_by_form(line)
 }
 
-fn read_sample(line: &[u8]) -> Read
+fn sample_by_form(line: &[u8]) -> Read
     ensures { λ r. ⌜ r ≡ firstOf (sample ∷ []) (now (line .entry)) ⌝ }
 {
     let r = read_form(line, b"sensor=# emergency=# safety=# foreign=# gross=#");

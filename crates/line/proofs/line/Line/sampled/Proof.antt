@@ -1,10 +1,13 @@
--- `sampled` equals its definition `sampled`. Assumes nothing.
+-- `sampled` equals its definition `sampled`: steps 2 and 3 may end it. Assumes nothing.
 use borrow.Author.Needs.{needs}
+use borrow.Author.Tests.{eq-eqb, ne-eqb}
+use mathlib.Core.Path.{sym, _∙_}
 use Rattle.event.proofs.Facts.{in-range}
 use Rattle.weight.proofs.Signed.{back}
 use Rattle.line.proofs.Facts.{fit-tells}
-use Rattle.line.proofs.Steps.{ready-step1, ready-step2}
-use Rattle.line.specs.Sample.{sampled, step1}
+use Rattle.line.proofs.Steps.{ready-step1}
+use Rattle.line.specs.Effect.{halting, halted}
+use Rattle.line.specs.Sample.{sampled, fromStep3, step2, step3, guarded, step1}
 use Rattle.line.proofs.line.Line.sampled.Statement.{statement}
 use Rattle.line.proofs.line.Line.sampled.Tie as tie
 
@@ -17,23 +20,57 @@ step1-requires c κs = search needs
 edge-made-requires : tie.Need-edge-made-requires
 edge-made-requires c κs = search needs
 
-step2-requires : tie.Need-step2-requires
-step2-requires c κs = search needs
-
-from-step3-requires : tie.Need-from-step3-requires
-from-step3-requires c κs =
-    let s = c .before .before .before .before .before in
-    let f = fit-tells (s .args .self) (s .pre .0) in
-    let r = ready-step2 (step1 (s .args .self) (s .args .s)) (s .args .s .emergency) (ready-step1 (s .args .self) (s .args .s) (record { setup = f .setup; item = f .item })) in
-    rw (c .before .step2 .ensures, c .before .before .before .step1 .ensures, back (s .args .s .gross) (c .struct-told .given .0 .1))
-    (r .setup, r .item, s .pre .1, in-range (s .args .s) (s .pre .2) .gross)
+halting-requires : tie.Need-halting-requires
+halting-requires c κs = search needs
 
 returns : tie.Need-returns
-unfolding sampled
-returns c =
-    let s = c .before .before .before .before .before .before in
+unfolding sampled fromStep3 step2 halting halted
+returns c = simp (c .halting .ensures, sym (c .before .before .before .before .step1 .ensures), eq-eqb _ _ (c .before .if1 .taken))
+
+halting-requires-2 : tie.Need-halting-requires-2
+halting-requires-2 c κs = search needs
+
+returns-2 : tie.Need-returns-2
+unfolding sampled fromStep3 step2 halting halted
+returns-2 c =
+    simp (c .halting2 .ensures, sym (c .before .before .before .before .before .before .step1 .ensures), eq-eqb _ _ (c .before .if2 .taken), ne-eqb _ _ (c .before .before .before .if1 .left))
+
+plain-requires : tie.Need-plain-requires
+plain-requires c κs = search needs
+
+returns-3 : tie.Need-returns-3
+unfolding sampled fromStep3 step2
+returns-3 c =
+    simp (c .plain .ensures, sym (c .before .before .before .before .before .before .before .before .step1 .ensures), ne-eqb _ _ (c .before .if3 .taken), ne-eqb _ _ (c .before .before .before .if2 .left), ne-eqb _ _ (c .before .before .before .before .before .if1 .left))
+
+lowest-off-requires : tie.Need-lowest-off-requires
+lowest-off-requires c κs = search needs
+
+with-status-requires : tie.Need-with-status-requires
+with-status-requires c κs = search needs
+
+plain-requires-2 : tie.Need-plain-requires-2
+plain-requires-2 c κs = search needs
+
+returns-4 : tie.Need-returns-4
+unfolding sampled fromStep3 step2 step3 guarded
+returns-4 c =
+    simp (c .plain2 .ensures, c .before .with-status .ensures, sym (c .before .before .before .before .before .before .before .before .before .before .before .step1 .ensures), ne-eqb _ _ (λ z. c .before .before .if4 .taken (c .before .before .before .lowest-off .ensures ∙ z)), eq-eqb _ _ (c .before .before .before .before .if3 .left), ne-eqb _ _ (c .before .before .before .before .before .before .if2 .left), ne-eqb _ _ (c .before .before .before .before .before .before .before .before .if1 .left))
+
+running-tick-requires : tie.Need-running-tick-requires
+running-tick-requires c κs =
+    let s = c .before .before .before .before .before .before .before .before .before .before .before .before in
+    let f = fit-tells (s .args .self) (s .pre .0) in
+    let r = ready-step1 (s .args .self) (s .args .s) (record { setup = f .setup; item = f .item }) in
+    rw (c .before .before .before .before .before .before .before .before .before .before .step1 .ensures, back (s .args .s .gross) (c .struct-told .given .0 .1))
+    (r .setup, r .item, s .pre .1, in-range (s .args .s) (s .pre .2) .gross)
+
+returns-5 : tie.Need-returns-5
+unfolding sampled fromStep3 step2 step3 guarded
+returns-5 c =
+    let s = c .before .before .before .before .before .before .before .before .before .before .before .before .before in
     let b = back (s .args .s .gross) (c .before .struct-told .given .0 .1) in
-    simp (rw b at (c .from-step3 .ensures), c .before .before .step2 .ensures, c .before .before .before .edge-made .ensures, c .before .before .before .before .step1 .ensures, c .before .before .before .before .before .foreign-rises .ensures)
+    simp (rw b at (c .running-tick .ensures), sym (c .before .before .before .before .before .before .before .before .before .before .before .step1 .ensures), c .before .before .before .before .before .before .before .before .before .before .edge-made .ensures, c .before .before .before .before .before .before .before .before .before .before .before .before .foreign-rises .ensures, eq-eqb _ _ (sym (c .before .before .before .lowest-off .ensures) ∙ c .before .before .if4 .left), eq-eqb _ _ (c .before .before .before .before .if3 .left), ne-eqb _ _ (c .before .before .before .before .before .before .if2 .left), ne-eqb _ _ (c .before .before .before .before .before .before .before .before .if1 .left))
 
 pub sampled-spec : {M : Type 1} → statement M
 sampled-spec =
@@ -42,6 +79,15 @@ sampled-spec =
     foreign-rises-requires
     step1-requires
     edge-made-requires
-    step2-requires
-    from-step3-requires
-    returns)
+    halting-requires
+    returns
+    halting-requires-2
+    returns-2
+    plain-requires
+    returns-3
+    lowest-off-requires
+    with-status-requires
+    plain-requires-2
+    returns-4
+    running-tick-requires
+    returns-5)

@@ -9,8 +9,8 @@ use lib.Signed.{ltZ, nonNeg}
 use mir.Facts.{toZ-ofZ, fits-natAbs}
 use Rattle.text.specs.Read.{limit, unsigned}
 use Rattle.text.proofs.Heads.{never}
-use Rattle.text.proofs.reader.unsigned_of.Statement.{statement}
-use Rattle.text.proofs.reader.unsigned_of.Tie as tie
+use Rattle.text.proofs.number.unsigned_of.Statement.{statement}
+use Rattle.text.proofs.number.unsigned_of.Tie as tie
 
 negative : (z : ℤ) → ltZ z (pos 0) ≡ true → limit ≡ unsigned z
 negative (pos n) h = never (sym (le-ltb n 0 zero-le) ∙ h)

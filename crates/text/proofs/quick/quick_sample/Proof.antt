@@ -1,0 +1,124 @@
+-- `quick_sample` answers other, or what the line says. Assumes nothing.
+use borrow.Author.Needs.{needs}
+use borrow.Author.Tests.{not-false}
+use mathlib.Core.Logic.{inl, inr}
+use mathlib.Core.Path.{refl, sym, _∙_}
+use Prim.Native.Nat.{_-_}
+use lib.ListN.{length, take, drop}
+use denote.Ref.{now}
+use Rattle.weight.proofs.Signed.{back}
+use Rattle.text.proofs.Keys.{head-levels, middle-level, quick-law, from-place, quick-says}
+use Rattle.text.proofs.quick.quick_sample.Statement.{statement}
+use Rattle.text.proofs.quick.quick_sample.Tie as tie
+
+is-head-requires : tie.Need-is-head-requires
+is-head-requires c κs = search needs
+
+returns : tie.Need-returns
+returns c = inl refl
+
+read-number-requires : tie.Need-read-number-requires
+read-number-requires c κs = search needs
+
+enum-known-safety : tie.Need-enum-known-safety
+enum-known-safety c = search needs
+
+enum-told : tie.Need-enum-told
+enum-told c = search needs
+
+returns-2 : tie.Need-returns-2
+returns-2 c = inl refl
+
+returns-3 : tie.Need-returns-3
+returns-3 c = inl refl
+
+sub-rest : tie.Need-sub-rest
+sub-rest c = search needs
+
+part-rest-start : tie.Need-part-rest-start
+part-rest-start c = search needs
+
+part-rest-end : tie.Need-part-rest-end
+part-rest-end c = search needs
+
+is-middle-requires : tie.Need-is-middle-requires
+is-middle-requires c κs = search needs
+
+returns-4 : tie.Need-returns-4
+returns-4 c = inl refl
+
+read-number-requires-2 : tie.Need-read-number-requires-2
+read-number-requires-2 c κs = search needs
+
+enum-known-gross : tie.Need-enum-known-gross
+enum-known-gross c = search needs
+
+enum-told-2 : tie.Need-enum-told-2
+enum-told-2 c = search needs
+
+returns-5 : tie.Need-returns-5
+returns-5 c = inl refl
+
+returns-6 : tie.Need-returns-6
+returns-6 c = inl refl
+
+level-of-requires : tie.Need-level-of-requires
+level-of-requires c κs = head-levels (now (c .before .before .before .before .before .before .before .before .before .before .before .before .before .before .before .before .args .line)) (sym (c .before .before .before .before .before .before .before .before .before .before .before .before .before .before .is-head .ensures) ∙ not-false _ (c .before .before .before .before .before .before .before .before .before .before .before .before .before .if1 .left)) .0
+
+level-of-requires-2 : tie.Need-level-of-requires-2
+level-of-requires-2 c κs = head-levels (now (c .before .before .before .before .before .before .before .before .before .before .before .before .before .before .before .before .before .args .line)) (sym (c .before .before .before .before .before .before .before .before .before .before .before .before .before .before .before .is-head .ensures) ∙ not-false _ (c .before .before .before .before .before .before .before .before .before .before .before .before .before .before .if1 .left)) .1
+
+unsigned-of-requires : tie.Need-unsigned-of-requires
+unsigned-of-requires c κs = search needs
+
+level-of-requires-3 : tie.Need-level-of-requires-3
+level-of-requires-3 c κs =
+    let line = now (c .before .before .before .before .before .before .before .before .before .before .before .before .before .before .before .before .before .before .before .args .line) in
+    let at = c .before .before .before .before .before .before .before .before .before .before .before .before .before .safety .given .0 .1 .0 in
+    middle-level (take (length line - at) (drop at line)) (sym (c .before .before .before .before .before .before .before .before .before .is-middle .ensures) ∙ not-false _ (c .before .before .before .before .before .before .before .before .if3 .left))
+
+returns-7 : tie.Need-returns-7
+returns-7 c =
+    let line = now (c .before .before .before .before .before .before .before .before .before .before .before .before .before .before .before .before .before .before .before .before .args .line) in
+    let v = c .before .before .before .before .before .before .before .before .before .before .before .before .before .before .safety .given .0 .0 in
+    let at = c .before .before .before .before .before .before .before .before .before .before .before .before .before .before .safety .given .0 .1 .0 in
+    let rest = take (length line - at) (drop at line) in
+    let g = c .before .before .before .before .before .before .gross .given .0 .0 in
+    let end = c .before .before .before .before .before .before .gross .given .0 .1 .0 in
+    let law = quick-law line rest v g at end
+    (sym (c .before .before .before .before .before .before .before .before .before .before .before .before .before .before .before .before .before .before .is-head .ensures) ∙ not-false _ (c .before .before .before .before .before .before .before .before .before .before .before .before .before .before .before .before .before .if1 .left))
+    (rw (c .before .before .before .before .before .before .before .before .before .before .before .before .before .before .safety .given .1) at (c .before .before .before .before .before .before .before .before .before .before .before .before .before .before .before .before .read-number .ensures))
+    (from-place line at)
+    (sym (c .before .before .before .before .before .before .before .before .before .before .is-middle .ensures) ∙ not-false _ (c .before .before .before .before .before .before .before .before .before .if3 .left))
+    (rw (c .before .before .before .before .before .before .gross .given .1) at (c .before .before .before .before .before .before .before .before .read-number2 .ensures))
+    (c .before .before .before .before .if4 .left) in
+    inr (rw (back g (c .before .before .before .before .before .known-told2 .given .0 .1))
+    (quick-says line rest v g _ _ _ _ (c .before .before .before .level-of .ensures) (c .before .before .level-of2 .ensures)
+    (rw (back v (c .before .before .before .before .before .before .before .before .before .before .before .before .before .known-told .given .0 .1)) at (c .before .unsigned-of .ensures)) (c .level-of3 .ensures) law))
+
+pub quick-sample-spec : {M : Type 1} → statement M
+quick-sample-spec =
+    tie.close
+    (tie.spec
+    is-head-requires
+    returns
+    read-number-requires
+    enum-known-safety
+    enum-told
+    returns-2
+    returns-3
+    sub-rest
+    part-rest-start
+    part-rest-end
+    is-middle-requires
+    returns-4
+    read-number-requires-2
+    enum-known-gross
+    enum-told-2
+    returns-5
+    returns-6
+    level-of-requires
+    level-of-requires-2
+    unsigned-of-requires
+    level-of-requires-3
+    returns-7)
