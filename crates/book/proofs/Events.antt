@@ -7,7 +7,7 @@ use native.Mathlib.Omega.{arith}
 use lib.Dec.{T, eqb, leb}
 use lib.IntN.{ℤ}
 use borrow.Author.Tests.{eqb-true, eqb-false, ne-eqb, leb-true, not-true, not-false}
-use Rattle.weight.proofs.Tests.{both, and-intro, if-ind, by-cases}
+use Rattle.laws.proofs.Tests.{both, and-intro, if-ind, by-cases}
 use Rattle.settings.specs.declared.Settings.{Settings}
 use Rattle.event.specs.Setup.{setupFit}
 use Rattle.event.specs.Event.{eventRanged, eventAgrees}

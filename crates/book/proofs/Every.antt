@@ -10,8 +10,8 @@ use lib.IntN.{ℤ}
 use lib.ListN.{length, getD, replicate, length-set, length-replicate, getD-replicate}
 use lib.Seq.{getD-set-same, getD-set-other}
 use borrow.Author.Tests.{eqb-true, eqb-false, eq-eqb, leb-true}
-use Rattle.weight.specs.Choice.{if_then_else_}
-use Rattle.weight.proofs.Tests.{both, and-intro, if-ind, by-cases}
+use Rattle.laws.specs.Choice.{if_then_else_}
+use Rattle.laws.proofs.Tests.{both, and-intro, if-ind, by-cases}
 use Rattle.settings.specs.Settings.{blank, recordFit, recordRanged, limitsOrdered, settingsLength}
 use Rattle.settings.specs.declared.Settings.{Settings}
 use Rattle.device.specs.Sorter.{sorting, waiting, sorterOff, waitsFit, sorterFit}

@@ -4,7 +4,7 @@ use mathlib.Core.Bool.{_&&_, not}
 use Prim.Native.Nat.{ℕ, _+_, _*_}
 use native.Mathlib.Omega.{arith}
 use lib.Dec.{eqb}
-use Rattle.weight.specs.Choice.{if_then_else_}
+use Rattle.laws.specs.Choice.{if_then_else_}
 use Rattle.line.specs.Effect.{bit}
 use Rattle.line.proofs.Moves.{Moves, still, judged, judged-next, dismissed, dismissed-next, two-on, abandoned, detected}
 use Rattle.book.specs.Boxes.{isJudged}

@@ -10,10 +10,10 @@ use lib.IntN.{ℤ, natAbs, _+ℤ_}
 use lib.ListN.{length}
 use lib.Signed.{ltZ}
 use borrow.Author.Tests.{leb-true, le-leb, eq-eqb, ne-eqb}
-use Rattle.weight.specs.Choice.{if_then_else_, within}
+use Rattle.laws.specs.Choice.{if_then_else_, within}
 use Rattle.weight.specs.Weight.{isWeight}
-use Rattle.weight.proofs.Tests.{and-intro, if-ind}
-use Rattle.weight.proofs.Signed.{abs-add}
+use Rattle.laws.proofs.Tests.{and-intro, if-ind}
+use Rattle.laws.proofs.Signed.{abs-add}
 use Rattle.tally.specs.Tally.{graded, total, emptyTally, tallyFit, hasRoom, largestWith, smallestWith, countedWith, weighedWith, added, isVerdict}
 use Rattle.tally.specs.declared.tally.Tally.{Tally}
 use Rattle.tally.proofs.Ones.{ones, grade-ones}

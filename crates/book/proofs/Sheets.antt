@@ -8,8 +8,8 @@ use lib.Dec.{eqb, ltb}
 use lib.IntN.{ℤ}
 use lib.ListN.{length}
 use borrow.Author.Tests.{eqb-true, eqb-false, eq-eqb, leb-true, ltb-true}
-use Rattle.weight.specs.Choice.{if_then_else_}
-use Rattle.weight.proofs.Tests.{if-ind, by-cases}
+use Rattle.laws.specs.Choice.{if_then_else_}
+use Rattle.laws.proofs.Tests.{if-ind, by-cases}
 use Rattle.event.specs.declared.Event.{Event}
 use Rattle.tally.specs.Tally.{tallyFit, hasRoom, added, isVerdict}
 use Rattle.tallies.specs.Memory.{numbers, part, tallyOf, tallyAt, tallyAtFit, withTally, zeros, talliesLength}

@@ -3,7 +3,7 @@ use Prim.Native.Nat.{ℕ, _+_, _*_, _≤_}
 use mathlib.Core.Path.{_≡_}
 use mathlib.Core.Logic.{_≢_}
 use mathlib.Core.List.{List}
-use Rattle.weight.specs.Choice.{if_then_else_}
+use Rattle.laws.specs.Choice.{if_then_else_}
 use Rattle.event.specs.declared.Event.{Event}
 use Rattle.event.specs.declared.Event.the-variants.{Cancel}
 use Rattle.tallies.specs.Memory.{numbers, part}

@@ -5,7 +5,7 @@ use lib.Dec.{eqb}
 use lib.IntN.{ℤ, pos, natAbs, _+ℤ_}
 use lib.ListN.{length}
 use lib.Signed.{ltZ}
-use Rattle.weight.specs.Choice.{if_then_else_, within}
+use Rattle.laws.specs.Choice.{if_then_else_, within}
 use Rattle.tally.specs.declared.tally.Tally.{Tally}
 use Rattle.book.specs.Book.{Verdict}
 

@@ -42,7 +42,7 @@ use Rattle.checkweigher.specs.declared.block.Block.{Block}
 use Rattle.checkweigher.proofs.block.Block as B
 use Rattle.checkweigher.proofs.block.serve_lines as lines
 use Rattle.checkweigher.proofs.block.rest as rest
-use Rattle.records.proofs.Lending.{ref}
+use Rattle.walks.proofs.Lending.{ref}
 
 module _ {M : Type 1} (𝓤 : URA M) (H : Heap 𝓤) (A : Atoms 𝓤) (mem : Memory → SProp 𝓤) (run : Routine → Fun 𝓤) where
   abbrev pub Begin : Contract 𝓤

@@ -28,7 +28,7 @@ use denote.Triple.Statement.{Contract}
 use denote.Triple.Clauses.{ensured, lasts}
 use Rattle.settings.specs.declared.Settings.{Settings}
 use Rattle.settings.proofs.Settings as T
-use Rattle.records.proofs.Lending.{ref, result-is, result-rel}
+use Rattle.walks.proofs.Lending.{ref, result-is, result-rel}
 use Rattle.line.specs.declared.line.Line.{Line}
 use Rattle.line.proofs.line.Line as L
 use Rattle.line.proofs.line.Line.Laws as L′

@@ -8,7 +8,7 @@ use lib.Dec.{ltb}
 use lib.ListN.{length, getD, take, drop, set, length-drop}
 use lib.Seq.{take-suc, take-suc-set, take-all, take-take, take-add, drop-at, drop-drop, drop-set-lt, getD-drop, length-take-le}
 use borrow.Author.Tests.{ltb-true, ltb-false}
-use Rattle.weight.proofs.Tests.{by-cases}
+use Rattle.laws.proofs.Tests.{by-cases}
 use Rattle.checkweigher.specs.Reads.{keptLength}
 
 -- the first i bytes are moved, and those behind start + i are as they were

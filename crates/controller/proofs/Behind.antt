@@ -11,7 +11,7 @@ use lib.Dec.{leb}
 use lib.ListN.{length, take, drop, take-append-drop, drop-of-length-le, length-drop, length-append}
 use borrow.Rule.Slice.PartAt.{part-to-end}
 use borrow.Rule.Slice.PartMut.{putMid}
-use Rattle.weight.specs.Choice.{if_then_else_}
+use Rattle.laws.specs.Choice.{if_then_else_}
 use Rattle.print.specs.Written.{putText, written, lengthWritten}
 use Rattle.controller.specs.Answer.{Answer, putAt, endAt}
 

@@ -45,7 +45,7 @@ use Rattle.sheet.proofs.answer.Report as P
 use Rattle.sheet.proofs.answer.Report.Laws as P′
 use Rattle.sheet.proofs.report as report
 use Rattle.line.proofs.line.Line.apply as apply
-use Rattle.records.proofs.Lending.{ref, result-is, result-rel}
+use Rattle.walks.proofs.Lending.{ref, result-is, result-rel}
 
 module _ {M : Type 1} (𝓤 : URA M) (H : Heap 𝓤) (A : Atoms 𝓤) (mem : Memory → SProp 𝓤) (run : Routine → Fun 𝓤) where
   abbrev pub Reports : Contract 𝓤

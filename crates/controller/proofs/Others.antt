@@ -41,7 +41,7 @@ use Rattle.controller.specs.declared.Served.{Served}
 use Rattle.controller.proofs.Served as O
 use Rattle.controller.proofs.not_event as not-event
 use Rattle.controller.proofs.answered as answered
-use Rattle.records.proofs.Lending.{ref, result-is, result-rel}
+use Rattle.walks.proofs.Lending.{ref, result-is, result-rel}
 
 module _ {M : Type 1} (𝓤 : URA M) (H : Heap 𝓤) (A : Atoms 𝓤) (mem : Memory → SProp 𝓤) (run : Routine → Fun 𝓤) where
   abbrev pub NotEvent : Contract 𝓤

@@ -40,7 +40,7 @@ use Rattle.text.proofs.read_line as read-line
 use Rattle.controller.proofs.answer.put_report as put-report
 use Rattle.controller.proofs.answer.put_refused as put-refused
 use Rattle.controller.specs.Answer.{reported, refusedText, putAt, endAt}
-use Rattle.records.proofs.Lending.{ref, result-is, result-rel}
+use Rattle.walks.proofs.Lending.{ref, result-is, result-rel}
 
 module _ {M : Type 1} (𝓤 : URA M) (H : Heap 𝓤) (A : Atoms 𝓤) (mem : Memory → SProp 𝓤) (run : Routine → Fun 𝓤) where
   abbrev pub ReadLine : Contract 𝓤

@@ -5,7 +5,7 @@ use mathlib.Core.List.{List, _++_}
 use lib.Dec.{eqb}
 use lib.IntN.{ℤ}
 use lib.ListN.{length, take, drop}
-use Rattle.weight.specs.Choice.{if_then_else_}
+use Rattle.laws.specs.Choice.{if_then_else_}
 use Rattle.settings.specs.Settings.{settingsLength}
 use Rattle.tallies.specs.Memory.{talliesLength}
 use Rattle.sheet.specs.declared.answer.Report.{Report}

@@ -4,7 +4,7 @@ use mathlib.Core.List.{List, [], _∷_, _++_}
 use lib.Dec.{eqb}
 use lib.IntN.{ℤ}
 use lib.ListN.{replicate}
-use Rattle.weight.specs.Choice.{if_then_else_}
+use Rattle.laws.specs.Choice.{if_then_else_}
 use Rattle.settings.specs.Settings.{blank, settingsLength}
 use Rattle.settings.specs.declared.Settings.{Settings}
 use Rattle.tallies.specs.Memory.{zeros, talliesLength}

@@ -6,7 +6,7 @@ use Prim.Native.Nat.{ℕ, _+_, _-_, _≤_, max}
 use native.Mathlib.Omega.{arith}
 use lib.Dec.{leb, eqb}
 use borrow.Author.Tests.{leb-true, le-leb, leb-false}
-use Rattle.weight.proofs.Tests.{both, and-intro, if-ind}
+use Rattle.laws.proofs.Tests.{both, and-intro, if-ind}
 use Rattle.device.specs.Sensor.{settled}
 use Rattle.device.specs.Sorter.{anyEnds, fallen, sorterTicked, placed, queued, sorterOff, waitsFit, sorterFit}
 use Rattle.device.specs.Foreign.{delayFallen, signalled, foreignTicked}

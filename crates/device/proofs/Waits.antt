@@ -7,7 +7,7 @@ use native.Mathlib.Omega.{arith}
 use lib.Dec.{T, eqb, ltb}
 use lib.ListN.{length, getD}
 use borrow.Author.Tests.{eqb-true, lt-ltb}
-use Rattle.weight.proofs.Tests.{by-cases}
+use Rattle.laws.proofs.Tests.{by-cases}
 use Rattle.device.specs.Sorter.{waiting, anyWaits, anyEnds, fallen}
 
 -- place k of the queue holds a wait

@@ -2,7 +2,7 @@
 use Prim.Native.Nat.{ℕ, _-_}
 use mathlib.Core.Bool.{Bool, _&&_, _||_, not, false}
 use lib.Dec.{eqb}
-use Rattle.weight.specs.Choice.{if_then_else_}
+use Rattle.laws.specs.Choice.{if_then_else_}
 use Rattle.device.specs.declared.foreign.Foreign.{Foreign}
 
 -- "A foreign delay falls by 1; at 0 the flag is set."

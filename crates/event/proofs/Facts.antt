@@ -4,9 +4,9 @@ use mathlib.Core.Bool.{Bool, true, _&&_}
 use Prim.Native.Nat.{_≤_, _%_}
 use lib.Dec.{leb, eqb}
 use borrow.Author.Tests.{leb-true}
-use Rattle.weight.specs.Choice.{within}
+use Rattle.laws.specs.Choice.{within}
 use Rattle.weight.specs.Weight.{isWeight}
-use Rattle.weight.proofs.Tests.{both}
+use Rattle.laws.proofs.Tests.{both}
 use Rattle.event.specs.Setup.{setupRanged, edgeAgrees, setupFit}
 use Rattle.event.specs.Sample.{sampleRanged}
 use Rattle.event.specs.declared.Setup.{Setup}

@@ -2,7 +2,7 @@
 use Prim.Native.Nat.{_%_}
 use mathlib.Core.Bool.{Bool, _&&_, not}
 use lib.Dec.{leb, eqb}
-use Rattle.weight.specs.Choice.{within}
+use Rattle.laws.specs.Choice.{within}
 use Rattle.event.specs.declared.Setup.{Setup}
 
 -- "mode 1 or 2; edge 1 (off to on) or 2 (on to off); tc, tw, tf 0 to 9,999; ta, ts, to 1 to 9,999; masks sort, stop, need 0 to 255; sort has bit 0 clear (else 2)"

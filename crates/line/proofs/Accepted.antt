@@ -8,8 +8,8 @@ use lib.Dec.{eqb}
 use lib.IntN.{ℤ}
 use lib.ListN.{length}
 use borrow.Author.Tests.{not-false, eqb-true}
-use Rattle.weight.specs.Choice.{if_then_else_}
-use Rattle.weight.proofs.Tests.{both}
+use Rattle.laws.specs.Choice.{if_then_else_}
+use Rattle.laws.proofs.Tests.{both}
 use Rattle.settings.specs.Settings.{recordFit, settingsLength}
 use Rattle.settings.specs.declared.Settings.{Settings}
 use Rattle.event.specs.Sample.{sampleRanged}

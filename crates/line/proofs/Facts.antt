@@ -2,7 +2,7 @@
 use mathlib.Core.Path.{_≡_}
 use mathlib.Core.Bool.{true}
 use lib.Dec.{leb}
-use Rattle.weight.proofs.Tests.{both}
+use Rattle.laws.proofs.Tests.{both}
 use Rattle.device.specs.Sorter.{sorterFit}
 use Rattle.event.specs.Setup.{setupFit}
 use Rattle.event.specs.Event.{isCode}

@@ -6,11 +6,11 @@ use native.Mathlib.Omega.{arith}
 use lib.Dec.{leb, ltb, eqb}
 use lib.IntN.{ℤ, pos, natAbs, _+ℤ_}
 use borrow.Author.Tests.{leb-true, le-leb, ltb-true, ltb-false, eqb-false}
-use Rattle.weight.specs.Choice.{within}
+use Rattle.laws.specs.Choice.{within}
 use Rattle.weight.specs.Weight.{isWeight}
 use Rattle.weight.specs.Mean.{rounded}
-use Rattle.weight.proofs.Tests.{both, and-intro, if-ind}
-use Rattle.weight.proofs.Signed.{abs-add}
+use Rattle.laws.proofs.Tests.{both, and-intro, if-ind}
+use Rattle.laws.proofs.Signed.{abs-add}
 use Rattle.weight.proofs.Nearest.{rounded-within}
 use Rattle.event.specs.declared.Setup.{Setup}
 use Rattle.event.proofs.Facts.{Timers}

@@ -4,7 +4,7 @@ use mathlib.Core.Bool.{Bool, true, _&&_, _||_, not}
 use Prim.Native.Nat.{ℕ}
 use lib.Dec.{leb, eqb}
 use borrow.Author.Tests.{leb-true, le-leb, eqb-true}
-use Rattle.weight.proofs.Tests.{both, and-intro, if-ind}
+use Rattle.laws.proofs.Tests.{both, and-intro, if-ind}
 use Rattle.mask.specs.Bits.{marked}
 use Rattle.device.specs.Sorter.{sorterFit, sorting, waiting, sorterOff, sorterTicked, queued}
 use Rattle.device.specs.Foreign.{foreignTicked}

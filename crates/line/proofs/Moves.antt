@@ -5,8 +5,8 @@ use Prim.Native.Nat.{ℕ}
 use lib.Dec.{eqb}
 use lib.IntN.{ℤ}
 use lib.Signed.{ltZ, leZ}
-use Rattle.weight.specs.Choice.{within}
-use Rattle.weight.proofs.Tests.{if-ind}
+use Rattle.laws.specs.Choice.{within}
+use Rattle.laws.proofs.Tests.{if-ind}
 use Rattle.mask.specs.Bits.{marked}
 use Rattle.settings.specs.Grade.{gradeOf}
 use Rattle.settings.specs.declared.Settings.{Settings}

@@ -3,7 +3,7 @@ use mathlib.Core.Path.{_≡_, refl}
 use mathlib.Core.Bool.{true}
 use Prim.Native.Nat.{ℕ}
 use lib.Dec.{eqb}
-use Rattle.weight.proofs.Tests.{if-ind}
+use Rattle.laws.proofs.Tests.{if-ind}
 use Rattle.mask.specs.Bits.{lowestOff}
 use Rattle.event.specs.Setup.{setupFit}
 use Rattle.event.specs.declared.Sample.{Sample}

@@ -9,8 +9,8 @@ use lib.IntN.{ℤ}
 use lib.ListN.{length, set}
 use types.Run.{OneOf, miss}
 use denote.Enum.Declared.{tagOf}
-use Rattle.weight.proofs.Tests.{by-cases}
-use Rattle.records.proofs.Past.{set-past}
+use Rattle.laws.proofs.Tests.{by-cases}
+use Rattle.lists.proofs.Past.{set-past}
 use Rattle.settings.specs.declared.Settings.{Settings}
 use Rattle.event.specs.declared.Event.{Event}
 use Rattle.event.specs.declared.Event.the-variants.{Sample, Run, Stop, Emergency, Recall, Cancel, ClearCode, ClearAll, ErrorReset, NoOperation, Setup, Store}

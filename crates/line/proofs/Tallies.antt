@@ -6,7 +6,7 @@ use Prim.Native.Nat.{ℕ}
 use lib.IntN.{ℤ}
 use lib.ListN.{length}
 use borrow.Author.Tests.{eq-eqb}
-use Rattle.weight.proofs.Tests.{and-intro}
+use Rattle.laws.proofs.Tests.{and-intro}
 use Rattle.event.specs.Event.{isCode}
 use Rattle.tally.specs.Tally.{tallyFit}
 use Rattle.tallies.specs.Memory.{talliesLength, lies, withTally, written}

@@ -8,9 +8,9 @@ use lib.Dec.{eqb, T}
 use lib.IntN.{ℤ, pos, _-ℤ_}
 use lib.Signed.{leZ}
 use borrow.Author.Tests.{eqb-true}
-use Rattle.weight.specs.Choice.{if_then_else_}
+use Rattle.laws.specs.Choice.{if_then_else_}
 use Rattle.weight.specs.Weight.{isWeight}
-use Rattle.weight.proofs.Tests.{both, if-ind}
+use Rattle.laws.proofs.Tests.{both, if-ind}
 use Rattle.mask.specs.Bits.{marked, lowestOff}
 use Rattle.settings.specs.Settings.{recordFit}
 use Rattle.settings.specs.Grade.{gradeOf}

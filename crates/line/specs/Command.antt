@@ -1,7 +1,7 @@
 -- 01, "Events": run, stop and emergency, as accepted.
 use mathlib.Core.Bool.{_&&_}
 use lib.Dec.{eqb}
-use Rattle.weight.specs.Choice.{if_then_else_}
+use Rattle.laws.specs.Choice.{if_then_else_}
 use Rattle.line.specs.Line.{stopped, running, paused, emergency, noError, isRunning, busy, withStatus}
 use Rattle.line.specs.Effect.{plain, halting}
 use Rattle.line.specs.declared.line.Line.{Line}

@@ -2,7 +2,7 @@
 use Prim.Native.Nat.{ℕ}
 use mathlib.Core.Bool.{Bool, true, false}
 use lib.IntN.{pos}
-use Rattle.weight.specs.Choice.{if_then_else_}
+use Rattle.laws.specs.Choice.{if_then_else_}
 use Rattle.device.specs.Sorter.{sorterOff}
 use Rattle.line.specs.Line.{noError, inHand, busy, conveyor, sorterOn}
 use Rattle.line.specs.declared.item.Item.the-variants.{None}

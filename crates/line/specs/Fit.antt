@@ -3,7 +3,7 @@ use Prim.Native.Nat.{ℕ, _-_, _*_}
 use mathlib.Core.Bool.{Bool, true, _&&_, _||_, not}
 use lib.Dec.{eqb, leb}
 use lib.IntN.{natAbs}
-use Rattle.weight.specs.Choice.{within}
+use Rattle.laws.specs.Choice.{within}
 use Rattle.weight.specs.Weight.{isWeight}
 use Rattle.device.specs.Sorter.{sorterFit}
 use Rattle.device.specs.declared.sensor.Sensor.{Sensor}

@@ -6,7 +6,7 @@ use lib.Dec.{eqb}
 use lib.IntN.{ℤ}
 use lib.ListN.{length}
 use lib.Signed.{ltZ}
-use Rattle.weight.specs.Choice.{if_then_else_}
+use Rattle.laws.specs.Choice.{if_then_else_}
 use Rattle.mask.specs.Bits.{lowestOff}
 use Rattle.refusal.specs.Table.{table, firstHolding}
 use Rattle.refusal.specs.declared.Faults.{Faults}

@@ -3,7 +3,7 @@ use Prim.Native.Nat.{ℕ, _-_}
 use mathlib.Core.Bool.{Bool, _&&_}
 use lib.Dec.{eqb, ltb}
 use lib.IntN.{ℤ, pos, _+ℤ_}
-use Rattle.weight.specs.Choice.{if_then_else_}
+use Rattle.laws.specs.Choice.{if_then_else_}
 use Rattle.weight.specs.Mean.{rounded}
 use Rattle.mask.specs.Bits.{lowestOff}
 use Rattle.settings.specs.declared.Settings.{Settings}

@@ -4,7 +4,7 @@ use mathlib.Core.List.{List}
 use lib.Dec.{eqb}
 use lib.IntN.{ℤ}
 use lib.ListN.{length, getD, set}
-use Rattle.weight.specs.Choice.{if_then_else_}
+use Rattle.laws.specs.Choice.{if_then_else_}
 use Rattle.settings.specs.Settings.{blank}
 use Rattle.settings.specs.declared.Settings.{Settings}
 use Rattle.event.specs.declared.Event.{Event}

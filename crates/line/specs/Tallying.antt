@@ -3,7 +3,7 @@ use Prim.Native.Nat.{ℕ}
 use mathlib.Core.List.{List}
 use lib.Dec.{eqb}
 use lib.IntN.{ℤ}
-use Rattle.weight.specs.Choice.{if_then_else_}
+use Rattle.laws.specs.Choice.{if_then_else_}
 use Rattle.tally.specs.Tally.{emptyTally, isVerdict, hasRoom, added}
 use Rattle.tallies.specs.Memory.{tallyAt, withTally, zeros, talliesLength}
 use Rattle.tally.specs.declared.tally.Tally.{Tally}

@@ -5,7 +5,7 @@ use mathlib.Core.Bool.{_&&_}
 use lib.Dec.{eqb}
 use lib.IntN.{ℤ, pos, _-ℤ_}
 use lib.Signed.{leZ}
-use Rattle.weight.specs.Choice.{if_then_else_}
+use Rattle.laws.specs.Choice.{if_then_else_}
 use Rattle.mask.specs.Bits.{marked}
 use Rattle.settings.specs.Grade.{gradeOf}
 use Rattle.settings.specs.declared.Settings.{Settings}

@@ -3,7 +3,7 @@ use Prim.Native.Nat.{ℕ, _-_, _/_, _%_, _^_}
 use mathlib.Core.Bool.{Bool, _&&_, not}
 use mathlib.Core.List.{List, [], _∷_}
 use lib.Dec.{eqb}
-use Rattle.weight.specs.Choice.{if_then_else_, within}
+use Rattle.laws.specs.Choice.{if_then_else_, within}
 
 -- bit k of a mask is set
 abbrev pub bitSet : ℕ → ℕ → Bool

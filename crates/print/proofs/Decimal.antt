@@ -11,8 +11,8 @@ use native.Mathlib.Omega.{arith}
 use native.Mathlib.Numerals.{add-one}
 use native.Mathlib.Nat.{pow-suc}
 use borrow.Author.Tests.{lt-ltb, le-ltb, le-leb, ltb-true, ltb-false}
-use Rattle.weight.proofs.Signed.{pos-abs}
-use Rattle.weight.proofs.Tests.{if-ind, by-cases}
+use Rattle.laws.proofs.Signed.{pos-abs}
+use Rattle.laws.proofs.Tests.{if-ind, by-cases}
 use Rattle.print.specs.Text.{decimalBy, decimal, signed}
 
 -- the two cases of a number's digits

@@ -2,7 +2,7 @@
 use Prim.Native.Nat.{ℕ}
 use mathlib.Core.List.{List, [], _∷_, _++_}
 use lib.Dec.{eqb}
-use Rattle.weight.specs.Choice.{if_then_else_}
+use Rattle.laws.specs.Choice.{if_then_else_}
 use Rattle.line.specs.declared.reply.Done.{Done as DoneFields}
 use Rattle.line.specs.declared.reply.Reply.{Reply}
 use Rattle.line.specs.declared.reply.Reply.the-variants.{Refused, Done}

@@ -39,7 +39,7 @@ use Rattle.settings.specs.Settings.{blank}
 use Rattle.settings.specs.declared.Settings.{Settings}
 use Rattle.settings.proofs.Settings as T
 use Rattle.settings.proofs.Settings.Laws as T′
-use Rattle.records.proofs.Loans.{LentAgain, LentShared, lends-again, comes-back, lends-shared, shared-back, lands-at}
+use Rattle.walks.proofs.Loans.{LentAgain, LentShared, lends-again, comes-back, lends-shared, shared-back, lands-at}
 use Rattle.records.proofs.read as get
 use Rattle.records.proofs.read.Symbol.{name as #get}
 use Rattle.records.proofs.write as set′

@@ -8,7 +8,7 @@ use lib.IntN.{ℤ, pos, negsuc, natAbs, _-ℤ_}
 use lib.Signed.{leZ}
 use borrow.Author.Tests.{leb-true, ltb-true, le-leb}
 use Rattle.weight.specs.Weight.{isWeight}
-use Rattle.weight.proofs.Tests.{both}
+use Rattle.laws.proofs.Tests.{both}
 use Rattle.settings.specs.Settings.{isLoad, recordRanged, limitsOrdered, recordFit}
 use Rattle.settings.specs.declared.Settings.{Settings}
 

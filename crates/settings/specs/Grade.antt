@@ -2,7 +2,7 @@
 use Prim.Native.Nat.{ℕ}
 use lib.IntN.{ℤ}
 use lib.Signed.{ltZ, leZ}
-use Rattle.weight.specs.Choice.{if_then_else_}
+use Rattle.laws.specs.Choice.{if_then_else_}
 use Rattle.settings.specs.declared.Settings.{Settings}
 
 unfoldable pub gradeOf : Settings → ℤ → ℕ

@@ -6,11 +6,11 @@ use native.Mathlib.Omega.{arith}
 use lib.Dec.{leb, eqb}
 use lib.IntN.{ℤ, natAbs, _-ℤ_}
 use borrow.Author.Tests.{le-leb, eqb-false}
-use Rattle.weight.specs.Choice.{if_then_else_}
+use Rattle.laws.specs.Choice.{if_then_else_}
 use Rattle.weight.specs.Weight.{isWeight}
 use Rattle.weight.specs.Mean.{rounded, meanOf}
 use Rattle.weight.specs.declared.Figure.the-variants.{None, Of}
-use Rattle.weight.proofs.Tests.{both, by-cases}
+use Rattle.laws.proofs.Tests.{both, by-cases}
 use Rattle.weight.proofs.Nearest.{rounded-within}
 use Rattle.settings.specs.Settings.{recordRanged, limitsOrdered, recordFit}
 use Rattle.settings.specs.declared.Settings.{Settings}

@@ -4,7 +4,7 @@ use Prim.Native.Nat.{zero-le}
 use native.Mathlib.Numerals.{add-one}
 use lib.IntN.{natAbs, _+ℤ_}
 use lib.ListN.{length}
-use Rattle.weight.proofs.Signed.{abs-add}
+use Rattle.laws.proofs.Signed.{abs-add}
 use Rattle.spread.proofs.Squares.{one-more}
 use Rattle.sheet.specs.Apart.{sumOf, squaresOf, Apart}
 

@@ -5,7 +5,7 @@ use mathlib.Core.List.{List}
 use lib.Dec.{eqb}
 use lib.IntN.{ℤ}
 use lib.ListN.{length, getD}
-use Rattle.weight.specs.Choice.{if_then_else_}
+use Rattle.laws.specs.Choice.{if_then_else_}
 use Rattle.settings.specs.Settings.{blank, recordFit, settingsLength}
 use Rattle.settings.specs.declared.Settings.{Settings}
 use Rattle.event.specs.Event.{isCode}

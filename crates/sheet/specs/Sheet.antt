@@ -3,7 +3,7 @@ use Prim.Native.Nat.{_-_, _*_}
 use mathlib.Core.Bool.{Bool, _&&_}
 use lib.Dec.{leb, eqb}
 use lib.IntN.{ℤ, natAbs, _-ℤ_}
-use Rattle.weight.specs.Choice.{if_then_else_}
+use Rattle.laws.specs.Choice.{if_then_else_}
 use Rattle.weight.specs.Mean.{rounded, meanOf}
 use Rattle.weight.specs.declared.Figure.{Figure}
 use Rattle.weight.specs.declared.Figure.the-variants.{None, Of}

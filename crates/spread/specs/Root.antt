@@ -1,7 +1,7 @@
 -- 01, "The sheet's figures": "the largest whole s with" s²·d ≤ x.
 use Prim.Native.Nat.{ℕ, zero, suc, _*_, _≤_}
 use lib.Dec.{leb}
-use Rattle.weight.specs.Choice.{if_then_else_}
+use Rattle.laws.specs.Choice.{if_then_else_}
 
 -- s is one with it, and no other is larger
 pub record Largest (d x s : ℕ) : Type 0 where

@@ -4,8 +4,8 @@ use mathlib.Core.Bool.{Bool, true, false, _&&_}
 use mathlib.Core.List.{List}
 use Prim.Native.Nat.{ℕ}
 use lib.IntN.{ℤ}
-use Rattle.weight.specs.Choice.{if_then_else_}
-use Rattle.weight.proofs.Tests.{both, clash}
+use Rattle.laws.specs.Choice.{if_then_else_}
+use Rattle.laws.proofs.Tests.{both, clash}
 use Rattle.tally.specs.declared.tally.Tally.{Tally}
 use Rattle.tallies.specs.Memory.{lies, lentAt, tallyAt, tallyAtFit}
 use Rattle.tallies.specs.declared.Lent.the-variants.{Fit, Unfit}

@@ -6,7 +6,7 @@ use lib.Dec.{leb, eqb}
 use lib.IntN.{ℤ, pos, natAbs}
 use lib.Signed.{leZ}
 use lib.ListN.{length, getD, take, drop, replicate}
-use Rattle.weight.specs.Choice.{if_then_else_}
+use Rattle.laws.specs.Choice.{if_then_else_}
 use Rattle.tally.specs.declared.tally.Tally.{Tally}
 use Rattle.tallies.specs.declared.Lent.{Lent}
 use Rattle.tallies.specs.declared.Lent.the-variants.{Fit, Unfit}

@@ -7,10 +7,10 @@ use lib.Dec.{leb, eqb}
 use lib.IntN.{ℤ, natAbs, _+ℤ_}
 use lib.Signed.{ltZ}
 use borrow.Author.Tests.{leb-true, le-leb, ltb-true, eq-eqb, ne-eqb}
-use Rattle.weight.specs.Choice.{if_then_else_}
+use Rattle.laws.specs.Choice.{if_then_else_}
 use Rattle.weight.specs.Weight.{isWeight}
-use Rattle.weight.proofs.Tests.{both, and-intro, if-ind}
-use Rattle.weight.proofs.Signed.{abs-add}
+use Rattle.laws.proofs.Tests.{both, and-intro, if-ind}
+use Rattle.laws.proofs.Signed.{abs-add}
 use Rattle.tally.specs.Tally.{graded, total, tallyFit, hasRoom, isGrade, largestWith, smallestWith, countedWith, weighedWith, added, isVerdict}
 use Rattle.tally.specs.Steps.{noneIsZero}
 use Rattle.tally.specs.declared.tally.Tally.{Tally}

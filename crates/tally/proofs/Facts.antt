@@ -9,7 +9,7 @@ use lib.Dec.{leb, eqb}
 use lib.IntN.{natAbs}
 use borrow.Author.Tests.{leb-true, eqb-true, le-leb}
 use Rattle.weight.specs.Weight.{isWeight}
-use Rattle.weight.proofs.Tests.{both, by-cases}
+use Rattle.laws.proofs.Tests.{both, by-cases}
 use Rattle.tally.specs.Tally.{graded, total, tallyFit}
 use Rattle.tally.specs.Steps.{smallCounts, Small, Bounded, noneIsZero}
 use Rattle.tally.specs.declared.tally.Tally.{Tally}

@@ -5,8 +5,8 @@ use Prim.Native.Nat.{ℕ, zero, suc, _+_}
 use native.Mathlib.Omega.{arith}
 use lib.Dec.{T, leb}
 use borrow.Author.Tests.{leb-true, le-leb, lt-leb, ne-eqb}
-use Rattle.weight.specs.Choice.{if_then_else_, within}
-use Rattle.weight.proofs.Tests.{both}
+use Rattle.laws.specs.Choice.{if_then_else_, within}
+use Rattle.laws.proofs.Tests.{both}
 use Rattle.tally.specs.Tally.{one, isVerdict}
 
 -- a verdict from 1 to 8 is one of the eight

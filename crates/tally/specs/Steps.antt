@@ -4,7 +4,7 @@ use Prim.Native.Nat.{_*_, _≤_}
 use mathlib.Core.Bool.{Bool, true, _&&_}
 use lib.Dec.{leb, eqb}
 use lib.IntN.{natAbs}
-use Rattle.weight.specs.Choice.{if_then_else_}
+use Rattle.laws.specs.Choice.{if_then_else_}
 use Rattle.tally.specs.declared.tally.Tally.{Tally}
 
 -- each count and n is small, as the code tests it

@@ -10,8 +10,8 @@ use lib.IntN.{ℤ}
 use native.Mathlib.Omega.{arith}
 use native.Mathlib.Numerals.{add-one}
 use borrow.Author.Tests.{leb-true, leb-false, eq-eqb, not-true}
-use Rattle.weight.specs.Choice.{if_then_else_}
-use Rattle.weight.proofs.Tests.{both, by-cases}
+use Rattle.laws.specs.Choice.{if_then_else_}
+use Rattle.laws.proofs.Tests.{both, by-cases}
 use Rattle.text.specs.Number.{Head, none, some, numberHead, fourHead}
 use Rattle.text.specs.Form.{Item, byte, number, four, Values, other, values, also, andRest, lineValues, numbers}
 use Rattle.text.specs.Read.{hold, held}

@@ -12,8 +12,8 @@ use native.Mathlib.Nat.{lt-of-not-le}
 use native.Mathlib.Numerals.{add-one}
 use native.Mathlib.Omega.{arith}
 use borrow.Author.Tests.{leb-true, eqb-true}
-use Rattle.weight.specs.Choice.{if_then_else_, within}
-use Rattle.weight.proofs.Tests.{both}
+use Rattle.laws.specs.Choice.{if_then_else_, within}
+use Rattle.laws.proofs.Tests.{both}
 use Rattle.text.specs.Number.{none, some, isDigit, signed, digits, positive, numberHead, fourDigits, fourNumber, fourHead}
 use Rattle.text.specs.Read.{limit, hold}
 use Rattle.text.specs.Views.{byteIs, digitFrom, heldHead, found, fourOf}

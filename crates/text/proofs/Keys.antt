@@ -9,7 +9,7 @@ use lib.IntN.{ℤ, pos}
 use lib.ListN.{length, getD, take, drop, drop-of-length-le, length-drop}
 use lib.Seq.{drop-drop, take-all}
 use borrow.Author.Tests.{eqb-true}
-use Rattle.weight.proofs.Tests.{both, by-cases}
+use Rattle.laws.proofs.Tests.{both, by-cases}
 use Rattle.text.specs.Number.{Head, none, some, numberHead}
 use Rattle.text.specs.Form.{Item, byte, number, Values, other, values, also, andRest, lineValues}
 use Rattle.text.specs.Read.{limit, hold, held, unsigned, Kind, sample, says, firstOf}

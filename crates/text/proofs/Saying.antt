@@ -8,8 +8,8 @@ use lib.IntN.{ℤ}
 use native.Mathlib.Omega.{arith}
 use lib.Dec.{eqb}
 use borrow.Author.Tests.{ne-eqb}
-use Rattle.weight.specs.Choice.{if_then_else_}
-use Rattle.weight.proofs.Tests.{by-cases}
+use Rattle.laws.specs.Choice.{if_then_else_}
+use Rattle.laws.proofs.Tests.{by-cases}
 use Rattle.text.specs.Form.{Item, byte, Values, other, values, lineValues}
 use Rattle.text.specs.Read.{hold, held, Kind, sample, setup, store, report, commands, kinds, says, firstOf}
 use Rattle.text.specs.Views.{reads}

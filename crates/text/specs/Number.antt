@@ -4,7 +4,7 @@ use mathlib.Core.Bool.{Bool, true, false, _&&_}
 use mathlib.Core.List.{List, [], _∷_, _++_}
 use lib.Dec.{ltb, eqb}
 use lib.IntN.{ℤ, pos, negsuc, negℤ}
-use Rattle.weight.specs.Choice.{if_then_else_, within}
+use Rattle.laws.specs.Choice.{if_then_else_, within}
 
 -- what stands at the head of a text: no number, or a number and the text behind it
 pub data Head : Type 0 where

@@ -5,7 +5,7 @@ use mathlib.Core.List.{List, [], _∷_, map}
 use lib.ListN.{drop, take}
 use lib.Dec.{eqb}
 use lib.IntN.{pos}
-use Rattle.weight.specs.Choice.{if_then_else_, within}
+use Rattle.laws.specs.Choice.{if_then_else_, within}
 use Rattle.text.specs.Number.{Head, none, some, numberHead, fourDigits, fourNumber, fourHead}
 use Rattle.text.specs.Form.{Item, byte, number, four, Values, other, values, numbers}
 use Rattle.text.specs.Read.{hold}

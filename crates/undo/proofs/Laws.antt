@@ -5,7 +5,7 @@ use mathlib.Core.List.{List}
 use Prim.Native.Nat.{ℕ}
 use lib.IntN.{ℤ}
 use Rattle.weight.specs.Weight.{isWeight}
-use Rattle.weight.proofs.Tests.{both, by-cases, clash}
+use Rattle.laws.proofs.Tests.{both, by-cases, clash}
 use Rattle.tally.specs.Tally.{tallyFit, hasRoom, added, notedOf, isVerdict}
 use Rattle.tally.proofs.Added.{added-fit}
 use Rattle.tally.specs.declared.tally.Tally.{Tally}

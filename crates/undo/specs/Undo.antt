@@ -3,7 +3,7 @@ use Prim.Native.Nat.{ℕ}
 use mathlib.Core.Bool.{Bool, true, false, _&&_}
 use mathlib.Core.List.{List}
 use lib.IntN.{ℤ}
-use Rattle.weight.specs.Choice.{if_then_else_}
+use Rattle.laws.specs.Choice.{if_then_else_}
 use Rattle.weight.specs.Weight.{isWeight}
 use Rattle.tally.specs.Tally.{tallyFit, hasRoom, added, isVerdict}
 use Rattle.tallies.specs.Memory.{lies, tallyAt, tallyAtFit, withTally}

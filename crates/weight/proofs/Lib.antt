@@ -1,3 +1,2 @@
-pub mod Tests
-pub mod Signed
+pub mod Sign
 pub mod Nearest

@@ -6,7 +6,7 @@ use native.Mathlib.Omega.{arith}
 use lib.IntN.{ℤ, natAbs}
 use borrow.Author.Tests.{le-leb, lt-leb}
 use Rattle.weight.specs.Mean.{nearest, rounded}
-use Rattle.weight.proofs.Signed.{abs-withSign}
+use Rattle.weight.proofs.Sign.{abs-withSign}
 
 -- one more than the quotient, where half or more is left
 pub one-more-le : (m n : ℕ) → 0 < n → n ≤ 2 * (m % n) → m / n + 1 ≤ m

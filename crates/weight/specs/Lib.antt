@@ -1,3 +1,2 @@
-pub mod Choice
 pub mod Weight
 pub mod Mean

@@ -4,7 +4,7 @@ use mathlib.Core.Bool.{true, false}
 use mathlib.Core.List.{List, [], _∷_, _++_}
 use Prim.Native.Nat.{ℕ}
 use lib.Dec.{eqb}
-use Rattle.weight.proofs.Tests.{by-cases}
+use Rattle.laws.proofs.Tests.{by-cases}
 use Rattle.event.specs.declared.Event.{Event}
 use Rattle.book.specs.Run.{World, after, runFrom, run, freshWorld}
 use Rattle.book.proofs.Every.{claim}

@@ -9,8 +9,8 @@ use lib.ListN.{length}
 use native.Mathlib.Omega.{arith}
 use borrow.Author.Tests.{lt-ltb, le-ltb, le-leb, eq-eqb, ne-eqb, ltb-true, ltb-false, leb-true, eqb-true}
 use Prim.Native.String.{String, [] as empty, _∷_ as _then_}
-use Rattle.weight.specs.Choice.{if_then_else_, within}
-use Rattle.weight.proofs.Tests.{both, if-ind, clash}
+use Rattle.laws.specs.Choice.{if_then_else_, within}
+use Rattle.laws.proofs.Tests.{both, if-ind, clash}
 use Rattle.text.specs.Number.{Head, none, some, isDigit, signed, digits, positive, numberHead, fourDigits, fourNumber, fourHead, decimalBy, decimal, numberText, fourText}
 use Rattle.text.specs.Form.{Item, byte, number, four, plain, fieldItems, moreItems, fieldsForm, Values, other, values, also, andRest, lineValues, lineText}
 use Rattle.wording.specs.OneText.{OneText}

@@ -52,7 +52,7 @@ use Rattle.sheet.proofs.answer.Report as P
 use Rattle.sheet.proofs.answer.Report.Laws as P′
 use Rattle.text.proofs.Read as D
 use Rattle.text.proofs.Read.Laws as D′
-use Rattle.records.proofs.Loans.{lands-at}
+use Rattle.walks.proofs.Loans.{lands-at}
 use Rattle.sheet.proofs.report.Symbol as report-def
 use Rattle.sheet.proofs.report.Symbol.{name as #report}
 use Rattle.sheet.proofs.report.Met as report-thm
@@ -62,8 +62,8 @@ use Rattle.controller.proofs.answer.put_report.Met as put-report-thm
 use Rattle.controller.proofs.answer.put_refused.Symbol as put-refused-def
 use Rattle.controller.proofs.answer.put_refused.Symbol.{name as #put-refused}
 use Rattle.controller.proofs.answer.put_refused.Met as put-refused-thm
-use Rattle.records.proofs.Lending.{ref, recell, use4}
-use Rattle.records.proofs.Clauses.{says2}
+use Rattle.walks.proofs.Lending.{ref, recell, use4}
+use Rattle.walks.proofs.Clauses.{says2}
 use Rattle.controller.proofs.Variants.{report-or}
 use Rattle.controller.proofs.Memories.{Reports, to-reports, asks-reports, ended-reports}
 use Rattle.controller.proofs.Texts.{PutReport, to-report, asks-report, ended-report, PutRefused, to-refused, asks-refused, ended-refused}

@@ -67,7 +67,7 @@ use Rattle.text.proofs.Read as D
 use Rattle.text.proofs.Read.Laws as D′
 use Rattle.controller.proofs.Served as O
 use Rattle.controller.proofs.Served.Laws as O′
-use Rattle.records.proofs.Loans.{lands-at}
+use Rattle.walks.proofs.Loans.{lands-at}
 use Rattle.line.proofs.line.Line.apply.Symbol as apply-def
 use Rattle.line.proofs.line.Line.apply.Symbol.{name as #apply}
 use Rattle.line.proofs.line.Line.apply.Met as apply-thm
@@ -80,10 +80,10 @@ use Rattle.controller.proofs.answered.Met as answered-thm
 use Rattle.controller.proofs.not_event.Symbol as not-event-def
 use Rattle.controller.proofs.not_event.Symbol.{name as #not-event}
 use Rattle.controller.proofs.not_event.Met as not-event-thm
-use Rattle.records.proofs.Lending.{ref, tyOf, recell, use4, use6, let-go, lend-shr, back-shr}
-use Rattle.records.proofs.Clauses.{says4}
-use Rattle.records.proofs.Leaving.{locals-at, leaves}
-use Rattle.records.proofs.Fields.{Field, field-of, field-place, field-cell}
+use Rattle.walks.proofs.Lending.{ref, tyOf, recell, use4, use6, let-go, lend-shr, back-shr}
+use Rattle.walks.proofs.Clauses.{says4}
+use Rattle.walks.proofs.Leaving.{locals-at, leaves}
+use Rattle.walks.proofs.Fields.{Field, field-of, field-place, field-cell}
 use Rattle.controller.proofs.Variants.{After, AsEvent, AsOther, after-step, event-or}
 use Rattle.controller.proofs.Memories.{Apply, to-apply, asks-apply, ended-apply}
 use Rattle.controller.proofs.Texts.{ReadLine, to-read, asks-read, ended-read}

@@ -44,7 +44,7 @@ use Rattle.settings.specs.Settings.{blank}
 use Rattle.settings.specs.declared.Settings.{Settings}
 use Rattle.settings.proofs.Settings as T
 use Rattle.settings.proofs.Settings.Laws as T′
-use Rattle.records.proofs.Loans.{lands-at}
+use Rattle.walks.proofs.Loans.{lands-at}
 use Rattle.settings.proofs.Settings.blank as none
 use Rattle.settings.proofs.Settings.blank.Symbol as none-def
 use Rattle.settings.proofs.Settings.blank.Symbol.{name as #none}

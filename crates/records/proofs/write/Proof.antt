@@ -42,7 +42,7 @@ use Rattle.settings.specs.Settings.{blank}
 use Rattle.settings.specs.declared.Settings.{Settings}
 use Rattle.settings.proofs.Settings as T
 use Rattle.settings.proofs.Settings.Laws as T′
-use Rattle.records.proofs.Past.{set-past}
+use Rattle.lists.proofs.Past.{set-past}
 use Rattle.records.proofs.write.Key.{name as #f}
 use Rattle.records.proofs.write as f
 use Rattle.records.proofs.write.Statement as stated

@@ -49,8 +49,8 @@ use denote.Exit.{yes}
 use Rattle.settings.specs.declared.Settings.{Settings}
 use Rattle.settings.proofs.Settings as T
 use Rattle.settings.proofs.Settings.Laws as T′
-use Rattle.records.proofs.Clauses.{says2}
-use Rattle.records.proofs.Owned.{array-out, arr-lends, arr-back}
+use Rattle.walks.proofs.Clauses.{says2}
+use Rattle.walks.proofs.Owned.{array-out, arr-lends, arr-back}
 use Rattle.event.specs.declared.Event.{Event}
 use Rattle.event.proofs.Event as E
 use Rattle.event.proofs.Event.Laws as E′

@@ -2,7 +2,7 @@
 use borrow.Author.Needs.{needs}
 use lib.IntN.{pos}
 use lib.ListN.{getD}
-use Rattle.weight.proofs.Signed.{back}
+use Rattle.laws.proofs.Signed.{back}
 use Rattle.tallies.specs.Memory.{unsigned}
 use Rattle.tallies.proofs.is_unsigned.Statement.{statement}
 use Rattle.tallies.proofs.is_unsigned.Tie as tie

@@ -2,7 +2,7 @@
 use borrow.Author.Needs.{needs}
 use native.Mathlib.Omega.{arith}
 use lib.ListN.{length-set}
-use Rattle.weight.proofs.Signed.{back, toZ-small}
+use Rattle.laws.proofs.Signed.{back, toZ-small}
 use Rattle.tallies.proofs.Lists.{spread}
 use Rattle.tallies.proofs.put.Statement.{statement}
 use Rattle.tallies.proofs.put.Tie as tie

@@ -6,7 +6,7 @@ use borrow.Author.Tests.{eq-eqb, ne-eqb}
 use mir.Facts.{toZ-ofZ}
 use lib.IntN.{natAbs}
 use Rattle.weight.specs.Mean.{nearest, rounded}
-use Rattle.weight.proofs.Signed.{back}
+use Rattle.laws.proofs.Signed.{back}
 use Rattle.weight.proofs.Nearest.{nearest-le}
 use Rattle.weight.proofs.mean_of.Statement.{statement}
 use Rattle.weight.proofs.mean_of.Tie as tie

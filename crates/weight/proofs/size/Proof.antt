@@ -7,7 +7,7 @@ use mir.Syntax.{w64}
 use mir.Val.{SFits}
 use lib.IntN.{pos}
 use lib.Signed.{mag}
-use Rattle.weight.proofs.Signed.{lit-le, nonneg, flip, abs-neg}
+use Rattle.laws.proofs.Signed.{lit-le, nonneg, flip, abs-neg}
 use Rattle.weight.proofs.size.Statement.{statement}
 use Rattle.weight.proofs.size.Tie as tie
 

@@ -5,7 +5,8 @@ use Prim.Native.Nat.{_-_, _≤_, _<_, _^_}
 use native.Mathlib.Omega.{arith}
 use mir.Facts.{toZ-ofZ}
 use lib.IntN.{pos, natAbs}
-use Rattle.weight.proofs.Signed.{toZ-small, lit-le, pos-abs, abs-neg, as-pos, as-neg, below-zero, neg-fits}
+use Rattle.laws.proofs.Signed.{toZ-small, lit-le, pos-abs, abs-neg, neg-fits}
+use Rattle.weight.proofs.Sign.{as-pos, as-neg, below-zero}
 use Rattle.weight.proofs.with_sign.Statement.{statement}
 use Rattle.weight.proofs.with_sign.Tie as tie
 

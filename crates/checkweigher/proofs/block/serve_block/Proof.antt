@@ -57,7 +57,7 @@ use Rattle.checkweigher.proofs.block.Session as S
 use Rattle.checkweigher.proofs.block.Session.Laws as S′
 use Rattle.checkweigher.proofs.block.Block as B
 use Rattle.checkweigher.proofs.block.Block.Laws as B′
-use Rattle.records.proofs.Owned.{arr-lends, arr-back}
+use Rattle.walks.proofs.Owned.{arr-lends, arr-back}
 use Rattle.checkweigher.proofs.block.begin.Symbol as begin-def
 use Rattle.checkweigher.proofs.block.begin.Symbol.{name as #begin}
 use Rattle.checkweigher.proofs.block.begin.Met as begin-thm
@@ -67,8 +67,8 @@ use Rattle.checkweigher.proofs.block.serve_lines.Met as lines-thm
 use Rattle.checkweigher.proofs.block.rest.Symbol as rest-def
 use Rattle.checkweigher.proofs.block.rest.Symbol.{name as #rest}
 use Rattle.checkweigher.proofs.block.rest.Met as rest-thm
-use Rattle.records.proofs.Lending.{ref, tyOf, use8}
-use Rattle.records.proofs.Leaving.{leaves}
+use Rattle.walks.proofs.Lending.{ref, tyOf, use8}
+use Rattle.walks.proofs.Leaving.{leaves}
 use Rattle.checkweigher.proofs.Blocks.{Begin, to-begin, asks-begin, ended-begin, Lines, to-lines, asks-lines, ended-lines, Rest, to-rest, asks-rest, ended-rest}
 use Rattle.checkweigher.proofs.block.serve_block.Key.{name as #f}
 use Rattle.checkweigher.proofs.block.serve_block as f

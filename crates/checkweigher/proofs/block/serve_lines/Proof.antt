@@ -69,9 +69,9 @@ use Rattle.controller.proofs.serve.Met as serve-thm
 use Rattle.checkweigher.proofs.block.next.Symbol as next-def
 use Rattle.checkweigher.proofs.block.next.Symbol.{name as #next}
 use Rattle.checkweigher.proofs.block.next.Met as next-thm
-use Rattle.records.proofs.Lending.{ref, recell, settles-at, by-cases, tyOf, use4, use8, lend-mut, back-mut, lend-shr, back-shr}
-use Rattle.records.proofs.Parts.{PartOwn, part-of}
-use Rattle.records.proofs.Leaving.{locals-at, leaves}
+use Rattle.walks.proofs.Lending.{ref, recell, settles-at, by-cases, tyOf, use4, use8, lend-mut, back-mut, lend-shr, back-shr}
+use Rattle.walks.proofs.Parts.{PartOwn, part-of}
+use Rattle.walks.proofs.Leaving.{locals-at, leaves}
 use Rattle.checkweigher.proofs.Bytes.{Answers, session-order, session-within, session-goes, session-last}
 use Rattle.checkweigher.proofs.Sessions.{sessionVal, Whole, session-is, whole-of}
 use Rattle.checkweigher.proofs.Lines.{Serve, to-serve, asks-serve, ended-serve, Next, to-next, asks-next, ended-next}

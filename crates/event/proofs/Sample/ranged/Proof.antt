@@ -1,6 +1,6 @@
 -- `ranged` tests each field. Assumes nothing.
 use borrow.Author.Needs.{needs}
-use Rattle.weight.proofs.Signed.{back}
+use Rattle.laws.proofs.Signed.{back}
 use Rattle.event.specs.Sample.{sampleRanged}
 use Rattle.event.proofs.Sample.ranged.Statement.{statement}
 use Rattle.event.proofs.Sample.ranged.Tie as tie

@@ -1,5 +1,5 @@
 -- `put_figure`: each case is printed by its own function. Assumes nothing.
-use Rattle.weight.proofs.Signed.{back}
+use Rattle.laws.proofs.Signed.{back}
 use borrow.Author.Needs.{needs}
 use Rattle.print.proofs.field.put_figure.Statement.{statement}
 use Rattle.print.proofs.field.put_figure.Tie as tie

@@ -1,6 +1,6 @@
 -- `put_did`: five fields, one behind the other. Assumes nothing.
 use native.Mathlib.Omega.{arith}
-use Rattle.weight.proofs.Signed.{back}
+use Rattle.laws.proofs.Signed.{back}
 use Rattle.print.proofs.Put.{wrote-then, wrote-in, wrote-end}
 use borrow.Author.Needs.{needs}
 use Rattle.print.proofs.reply.put_did.Statement.{statement}

@@ -1,6 +1,6 @@
 -- `put_weights`: five fields, one behind the other. Assumes nothing.
 use native.Mathlib.Omega.{arith}
-use Rattle.weight.proofs.Signed.{back}
+use Rattle.laws.proofs.Signed.{back}
 use Rattle.print.proofs.Put.{wrote-then, wrote-in, wrote-end}
 use borrow.Author.Needs.{needs}
 use Rattle.print.proofs.report.put_weights.Statement.{statement}

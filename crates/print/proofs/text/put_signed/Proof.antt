@@ -7,7 +7,7 @@ use lib.ListN.{length, length-set}
 use lib.IntN.{pos, natAbs}
 use mir.Facts.{toZ-ofZ}
 use denote.Ref.{now}
-use Rattle.weight.proofs.Signed.{lit-le}
+use Rattle.laws.proofs.Signed.{lit-le}
 use Rattle.print.specs.Text.{decimal, signed}
 use Rattle.print.proofs.Put.{wrote-then, wrote-in, wrote-as, wrote-byte}
 use Rattle.print.proofs.Decimal.{signed-above, signed-below, size-at-most-19}

@@ -2,7 +2,7 @@
 use mathlib.Core.Bool.{false}
 use mathlib.Core.Path.{_≡_}
 use lib.Signed.{ltZ, leZ}
-use Rattle.weight.proofs.Signed.{lt-was, le-was}
+use Rattle.laws.proofs.Signed.{lt-was, le-was}
 use Rattle.settings.specs.Grade.{gradeOf}
 use Rattle.settings.proofs.Settings.grade.Statement.{statement}
 use Rattle.settings.proofs.Settings.grade.Tie as tie

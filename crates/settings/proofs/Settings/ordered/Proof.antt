@@ -1,6 +1,6 @@
 -- `ordered` tests the limits in their order. Assumes nothing.
 use Rattle.settings.specs.Settings.{limitsOrdered}
-use Rattle.weight.proofs.Signed.{back}
+use Rattle.laws.proofs.Signed.{back}
 use Rattle.settings.proofs.Settings.ordered.Statement.{statement}
 use Rattle.settings.proofs.Settings.ordered.Tie as tie
 

@@ -1,6 +1,6 @@
 -- `ranged` tests each field. Assumes nothing.
 use borrow.Author.Needs.{needs}
-use Rattle.weight.proofs.Signed.{back}
+use Rattle.laws.proofs.Signed.{back}
 use Rattle.settings.specs.Settings.{recordRanged}
 use Rattle.settings.proofs.Settings.ranged.Statement.{statement}
 use Rattle.settings.proofs.Settings.ranged.Tie as tie

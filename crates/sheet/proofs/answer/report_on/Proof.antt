@@ -6,7 +6,7 @@ use denote.Ref.{now}
 use lib.Dec.{eqb}
 use lib.ListN.{length}
 use borrow.Author.Tests.{eq-eqb, ne-eqb, not-true, not-false}
-use Rattle.weight.proofs.Signed.{back}
+use Rattle.laws.proofs.Signed.{back}
 use Rattle.settings.specs.Settings.{recordFit}
 use Rattle.event.specs.Event.{isCode}
 use Rattle.tallies.specs.Memory.{lies, tallyAt, tallyAtFit}

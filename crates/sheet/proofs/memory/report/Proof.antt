@@ -43,7 +43,7 @@ use Rattle.settings.specs.Settings.{blank}
 use Rattle.settings.specs.declared.Settings.{Settings}
 use Rattle.settings.proofs.Settings as T
 use Rattle.settings.proofs.Settings.Laws as T′
-use Rattle.records.proofs.Loans.{lands-at}
+use Rattle.walks.proofs.Loans.{lands-at}
 use Rattle.records.proofs.Records.{R, mach, Get}
 use Rattle.records.proofs.read as get
 use Rattle.records.proofs.read.Symbol as get-def

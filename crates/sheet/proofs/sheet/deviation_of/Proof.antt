@@ -7,7 +7,7 @@ use native.Mathlib.Omega.{arith}
 use lib.IntN.{natAbs}
 use borrow.Author.Tests.{leb-true}
 use Rattle.weight.specs.Weight.{isWeight}
-use Rattle.weight.proofs.Signed.{sub-fits, sub-back}
+use Rattle.laws.proofs.Signed.{sub-fits, sub-back}
 use Rattle.sheet.proofs.sheet.deviation_of.Statement.{statement}
 use Rattle.sheet.proofs.sheet.deviation_of.Tie as tie
 

@@ -1,6 +1,6 @@
 -- `report_fit` is a fit tally with S² ≤ n·Q. Assumes nothing.
 use borrow.Author.Needs.{needs}
-use Rattle.weight.proofs.Signed.{back}
+use Rattle.laws.proofs.Signed.{back}
 use Rattle.sheet.proofs.Facts.{report-fit-is}
 use Rattle.sheet.proofs.sheet.report_fit.Statement.{statement}
 use Rattle.sheet.proofs.sheet.report_fit.Tie as tie

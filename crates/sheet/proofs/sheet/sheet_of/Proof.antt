@@ -3,7 +3,7 @@ use borrow.Author.Needs.{needs}
 use mathlib.Core.Path.{_≡_}
 use mir.Facts.{toZ-ofZ}
 use Rattle.weight.specs.Mean.{meanOf}
-use Rattle.weight.proofs.Signed.{back}
+use Rattle.laws.proofs.Signed.{back}
 use Rattle.sheet.specs.Sheet.{sheetOf}
 use Rattle.sheet.proofs.Facts.{fit-facts, mean-within, deviation-is}
 use Rattle.sheet.proofs.sheet.sheet_of.Statement.{statement}

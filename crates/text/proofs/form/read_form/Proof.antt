@@ -7,7 +7,7 @@ use native.Mathlib.Omega.{arith}
 use lib.ListN.{length, getD}
 use denote.Ref.{now}
 use borrow.Author.Tests.{not-true, not-false}
-use Rattle.weight.proofs.Signed.{back}
+use Rattle.laws.proofs.Signed.{back}
 use Rattle.text.proofs.Heads.{byte-here}
 use Rattle.text.proofs.Filling.{State, start, byte-found, byte-missing, value-missing, value-room, value-found, ended}
 use Rattle.text.proofs.form.read_form.Statement.{statement}

@@ -4,7 +4,7 @@ use mathlib.Core.Path.{_≡_}
 use mathlib.Core.Bool.{Bool, _&&_}
 use native.Mathlib.Omega.{arith}
 use borrow.Author.Tests.{not-true, not-false}
-use Rattle.weight.proofs.Signed.{toZ-small}
+use Rattle.laws.proofs.Signed.{toZ-small}
 use Rattle.text.specs.Number.{fourDigits}
 use Rattle.text.proofs.Heads.{Bounds, four-bounds}
 use borrow.Author.Needs.{needs}

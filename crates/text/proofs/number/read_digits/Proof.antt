@@ -9,7 +9,7 @@ use Rattle.text.specs.Number.{digits}
 use Rattle.text.specs.Read.{limit}
 use Rattle.text.specs.Views.{heldHead}
 use Rattle.text.proofs.Heads.{Digit, digit-here, digits-stop, digits-step}
-use Rattle.weight.proofs.Signed.{back}
+use Rattle.laws.proofs.Signed.{back}
 use Rattle.text.proofs.number.read_digits.Statement.{statement}
 use Rattle.text.proofs.number.read_digits.Tie as tie
 

@@ -4,7 +4,7 @@ use Prim.Native.Nat.{_<_, _^_}
 use native.Mathlib.Omega.{arith}
 use lib.IntN.{pos, negℤ, +ℤ-idl}
 use mir.Facts.{toZ-ofZ}
-use Rattle.weight.proofs.Signed.{toZ-small, neg-fits}
+use Rattle.laws.proofs.Signed.{toZ-small, neg-fits}
 use Rattle.text.proofs.number.with_sign.Statement.{statement}
 use Rattle.text.proofs.number.with_sign.Tie as tie
 

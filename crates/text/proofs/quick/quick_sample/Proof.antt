@@ -6,7 +6,7 @@ use mathlib.Core.Path.{refl, sym, _∙_}
 use Prim.Native.Nat.{_-_}
 use lib.ListN.{length, take, drop}
 use denote.Ref.{now}
-use Rattle.weight.proofs.Signed.{back}
+use Rattle.laws.proofs.Signed.{back}
 use Rattle.text.proofs.Keys.{head-levels, middle-level, quick-law, from-place, quick-says}
 use Rattle.text.proofs.quick.quick_sample.Statement.{statement}
 use Rattle.text.proofs.quick.quick_sample.Tie as tie

@@ -6,7 +6,7 @@ use lib.Dec.{lit<}
 use lib.IntN.{pos}
 use lib.Seq.{getD-take}
 use denote.Ref.{now}
-use Rattle.weight.proofs.Signed.{back}
+use Rattle.laws.proofs.Signed.{back}
 use Rattle.event.specs.declared.Event.the-variants as event
 use Rattle.text.specs.Read.{at, coded, codedCommands, firstOf}
 use Rattle.text.proofs.Saying.{has, has-not}

@@ -7,7 +7,7 @@ use lib.IntN.{pos}
 use lib.Seq.{getD-take}
 use denote.Ref.{now}
 use borrow.Author.Tests.{not-true, not-false}
-use Rattle.weight.proofs.Signed.{back}
+use Rattle.laws.proofs.Signed.{back}
 use Rattle.text.specs.Read.{at, report}
 use Rattle.text.proofs.Saying.{has, has-not}
 use Rattle.text.proofs.reader.read_report.Statement.{statement}

@@ -8,8 +8,8 @@ use Rattle.tally.specs.Tally.{hasRoom}
 use Rattle.tallies.specs.Memory.{tallyAt}
 use Rattle.undo.specs.Undo.{noChance, takes, keptOf, notedIn}
 use Rattle.undo.proofs.Laws.{taken-by-room}
-use Rattle.weight.proofs.Signed.{back}
-use Rattle.weight.proofs.Tests.{by-cases}
+use Rattle.laws.proofs.Signed.{back}
+use Rattle.laws.proofs.Tests.{by-cases}
 use Rattle.line.proofs.Tallies.{lies-there}
 use Rattle.line.specs.Effect.{bit, replied}
 use Rattle.line.specs.Line.{withUndo}

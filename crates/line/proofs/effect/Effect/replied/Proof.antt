@@ -1,6 +1,6 @@
 -- `replied` equals its definition `replied`. Assumes nothing.
 use borrow.Author.Needs.{needs}
-use Rattle.weight.proofs.Signed.{back}
+use Rattle.laws.proofs.Signed.{back}
 use Rattle.line.specs.Effect.{replied}
 use Rattle.line.proofs.effect.Effect.replied.Statement.{statement}
 use Rattle.line.proofs.effect.Effect.replied.Tie as tie

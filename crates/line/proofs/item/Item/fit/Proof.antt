@@ -5,9 +5,9 @@ use Prim.Native.Nat.{_≤_}
 use native.Mathlib.Omega.{arith}
 use lib.Dec.{leb}
 use Rattle.event.proofs.Facts.{timers}
-use Rattle.weight.proofs.Signed.{back}
-use Rattle.weight.proofs.Tests.{both}
-use Rattle.weight.specs.Choice.{within}
+use Rattle.laws.proofs.Signed.{back}
+use Rattle.laws.proofs.Tests.{both}
+use Rattle.laws.specs.Choice.{within}
 use Rattle.line.specs.Fit.{itemFit}
 use Rattle.line.proofs.item.Item.fit.Statement.{statement}
 use Rattle.line.proofs.item.Item.fit.Tie as tie

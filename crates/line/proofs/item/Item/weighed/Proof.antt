@@ -8,7 +8,7 @@ use lib.IntN.{natAbs, _+ℤ_}
 use mir.Syntax.{w64}
 use mir.Val.{SFits, toZ, ofZ}
 use Rattle.event.proofs.Facts.{timers}
-use Rattle.weight.proofs.Signed.{back, add-fits, add-back}
+use Rattle.laws.proofs.Signed.{back, add-fits, add-back}
 use Rattle.weight.specs.Mean.{rounded}
 use Rattle.weight.specs.declared.Figure.the-variants.{Of}
 use Rattle.line.proofs.Items.{averages}

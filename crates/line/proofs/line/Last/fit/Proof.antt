@@ -1,6 +1,6 @@
 -- `fit` equals its definition `lastFit`. Assumes nothing.
 use borrow.Author.Needs.{needs}
-use Rattle.weight.proofs.Signed.{back}
+use Rattle.laws.proofs.Signed.{back}
 use Rattle.line.specs.Fit.{lastFit}
 use Rattle.line.proofs.line.Last.fit.Statement.{statement}
 use Rattle.line.proofs.line.Last.fit.Tie as tie

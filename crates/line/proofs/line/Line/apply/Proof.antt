@@ -45,9 +45,9 @@ use Rattle.settings.specs.Settings.{blank}
 use Rattle.settings.specs.declared.Settings.{Settings}
 use Rattle.settings.proofs.Settings as T
 use Rattle.settings.proofs.Settings.Laws as T′
-use Rattle.records.proofs.Loans.{lands-at}
-use Rattle.records.proofs.Clauses.{says3}
-use Rattle.records.proofs.Leaving.{leaves}
+use Rattle.walks.proofs.Loans.{lands-at}
+use Rattle.walks.proofs.Clauses.{says3}
+use Rattle.walks.proofs.Leaving.{leaves}
 use Rattle.records.proofs.Records.{R, mach, Get, Set, gets, sets}
 use Rattle.records.proofs.read.Symbol as get-def
 use Rattle.records.proofs.read.Symbol.{name as #get}

@@ -1,7 +1,7 @@
 -- `detecting` equals its definition `detecting`. Assumes nothing.
 use borrow.Author.Needs.{needs}
 use mathlib.Core.Path.{_∙_, sym}
-use Rattle.weight.proofs.Signed.{back}
+use Rattle.laws.proofs.Signed.{back}
 use Rattle.line.specs.Sample.{detecting}
 use Rattle.line.proofs.line.Line.detecting.Statement.{statement}
 use Rattle.line.proofs.line.Line.detecting.Tie as tie

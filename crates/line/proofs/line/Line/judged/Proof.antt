@@ -8,8 +8,8 @@ use lib.Signed.{leZ}
 use mir.Val.{SFits}
 use mir.Syntax.{w64}
 use Rattle.settings.proofs.Facts.{loads}
-use Rattle.weight.proofs.Signed.{le-was, sub-fits, sub-back}
-use Rattle.weight.proofs.Tests.{both}
+use Rattle.laws.proofs.Signed.{le-was, sub-fits, sub-back}
+use Rattle.laws.proofs.Tests.{both}
 use Rattle.weight.specs.Weight.{isWeight}
 use Rattle.line.specs.Verdict.{judged}
 use Rattle.line.proofs.line.Line.judged.Statement.{statement}

@@ -7,7 +7,7 @@ use lib.ListN.{length}
 use lib.Dec.{eqb}
 use Rattle.settings.specs.Settings.{recordFit}
 use Rattle.tallies.specs.Memory.{talliesLength}
-use Rattle.weight.proofs.Tests.{both}
+use Rattle.laws.proofs.Tests.{both}
 use Rattle.line.proofs.Facts.{fit-tells}
 use Rattle.line.specs.Fit.{lineFit}
 use Rattle.line.specs.Refusal.{memorySound, readsRecord}

@@ -1,6 +1,6 @@
 -- `run_occupied` equals its definition `runOccupied`. Assumes nothing.
 use borrow.Author.Needs.{needs}
-use Rattle.weight.proofs.Signed.{back}
+use Rattle.laws.proofs.Signed.{back}
 use Rattle.line.specs.Refusal.{runOccupied}
 use Rattle.line.proofs.line.Line.run_occupied.Statement.{statement}
 use Rattle.line.proofs.line.Line.run_occupied.Tie as tie

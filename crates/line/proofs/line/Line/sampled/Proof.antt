@@ -3,7 +3,7 @@ use borrow.Author.Needs.{needs}
 use borrow.Author.Tests.{eq-eqb, ne-eqb}
 use mathlib.Core.Path.{sym, _∙_}
 use Rattle.event.proofs.Facts.{in-range}
-use Rattle.weight.proofs.Signed.{back}
+use Rattle.laws.proofs.Signed.{back}
 use Rattle.line.proofs.Facts.{fit-tells}
 use Rattle.line.proofs.Steps.{ready-step1}
 use Rattle.line.specs.Effect.{halting, halted}

@@ -1,6 +1,6 @@
 -- `step1` equals its definition `step1`. Assumes nothing.
 use borrow.Author.Needs.{needs}
-use Rattle.weight.proofs.Signed.{back}
+use Rattle.laws.proofs.Signed.{back}
 use Rattle.line.specs.Sample.{step1}
 use Rattle.line.proofs.line.Line.step1.Statement.{statement}
 use Rattle.line.proofs.line.Line.step1.Tie as tie

@@ -3,7 +3,7 @@ use borrow.Author.Needs.{needs}
 use mathlib.Core.Path.{sym, _∙_}
 use native.Mathlib.Omega.{arith}
 use borrow.Author.Tests.{not-true, not-false}
-use Rattle.weight.proofs.Signed.{back}
+use Rattle.laws.proofs.Signed.{back}
 use Rattle.tally.specs.Tally.{tallyFit}
 use Rattle.tally.specs.Steps.{Small}
 use Rattle.tally.proofs.Facts.{small-tells, large-unfit}

@@ -3,7 +3,7 @@ use mir.Facts.{toZ-ofZ}
 use mir.Syntax.{w64}
 use mir.Val.{SFits}
 use borrow.Author.Tests.{eq-eqb, ne-eqb}
-use Rattle.weight.proofs.Signed.{lt-was}
+use Rattle.laws.proofs.Signed.{lt-was}
 use Rattle.tally.specs.Tally.{largestWith}
 use Rattle.tally.proofs.tally.Tally.larger.Statement.{statement}
 use Rattle.tally.proofs.tally.Tally.larger.Tie as tie

@@ -1,7 +1,7 @@
 -- `none_is_zero` tests largest and smallest where nothing is graded. Assumes nothing.
 use borrow.Author.Needs.{needs}
 use borrow.Author.Tests.{eq-eqb, ne-eqb}
-use Rattle.weight.proofs.Signed.{back}
+use Rattle.laws.proofs.Signed.{back}
 use Rattle.tally.proofs.tally.Tally.none_is_zero.Statement.{statement}
 use Rattle.tally.proofs.tally.Tally.none_is_zero.Tie as tie
 

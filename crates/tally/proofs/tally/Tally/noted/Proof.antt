@@ -5,7 +5,7 @@ use mathlib.Core.Bool.{true, false, _&&_}
 use borrow.Author.Tests.{leb-true, not-true, not-false}
 use mir.Facts.{toZ-ofZ}
 use Rattle.weight.specs.Weight.{isWeight}
-use Rattle.weight.proofs.Tests.{both}
+use Rattle.laws.proofs.Tests.{both}
 use Rattle.tally.specs.Tally.{tallyFit, hasRoom, notedOf, isVerdict}
 use Rattle.tally.proofs.Facts.{fit-tells}
 use Rattle.tally.proofs.tally.Tally.noted.Statement.{statement}

@@ -7,7 +7,7 @@ use lib.IntN.{natAbs}
 use mir.Facts.{toZ-ofZ}
 use mir.Syntax.{w64}
 use mir.Val.{SFits}
-use Rattle.weight.proofs.Signed.{back, add-fits, add-back}
+use Rattle.laws.proofs.Signed.{back, add-fits, add-back}
 use Rattle.tally.specs.Tally.{weighedWith}
 use Rattle.tally.proofs.Facts.{square-le}
 use Rattle.tally.proofs.tally.Tally.weighed.Statement.{statement}

@@ -12,7 +12,6 @@ use borrow.Author.Tests.{le-ltb, le-leb, ltb-true}
 use mir.Syntax.{w64}
 use mir.Val.{SFits, toZ, ofZ}
 use mir.Facts.{toZ-ofZ}
-use Rattle.weight.specs.Mean.{withSign}
 
 -- a number that fits is read back from its bits: of a call's result `back (c .f .result) (c .f .ok)`
 pub back : (z : ℤ) → mag z < 2 ^ 63 → toZ w64 (ofZ w64 z) ≡ z
@@ -34,7 +33,7 @@ module _ {a : ℤ} {t : Bool} (fa : SFits w64 a) (b : ℤ) where
   lit-le h = rw (toZ-ofZ fa) at h
 
 -- what a test against 0 tells
-not-neg : (a : ℕ) → leZ (pos 0) (pos a) ≡ false → ⊥
+pub not-neg : (a : ℕ) → leZ (pos 0) (pos a) ≡ false → ⊥
 not-neg a h = let z : _≡_ {A = Bool} true false = sym (le-leb 0 a zero-le) ∙ h in subst T z tt
 
 pub nonneg : (x : ℤ) → leZ (pos 0) x ≡ true → T (nonNeg x)
@@ -52,20 +51,6 @@ flip (negsuc a) h = simp (le-ltb (suc a) 1 (omega arith)) (ap pos (omega arith))
 pub abs-neg : (x : ℤ) → leZ (pos 0) x ≡ false → natAbs x ≡ mag x + 1
 abs-neg (pos a) h = absurd (not-neg a h)
 abs-neg (negsuc a) h = omega arith
-
-pub as-pos : (z : ℤ) (q : ℕ) → leZ (pos 0) z ≡ true → withSign z q ≡ pos q
-as-pos (pos a) q h = refl
-as-pos (negsuc a) q h = absurd (subst T (sym h) tt)
-
-pub as-neg : (z : ℤ) (q : ℕ) → leZ (pos 0) z ≡ false → withSign z q ≡ negℤ (pos q)
-as-neg (pos a) q h = absurd (not-neg a h)
-as-neg (negsuc a) q h = refl
-
--- -1 less one less than q
-pub below-zero : (q : ℕ) → 0 < q → negsuc 0 -ℤ pos (q - 1) ≡ negℤ (pos q)
-below-zero zero p = absurd (omega arith)
-below-zero (suc zero) p = refl
-below-zero (suc (suc k)) p = let e : suc (suc k) - 1 ≡ suc k = omega arith in rw e (ap negsuc (omega arith))
 
 -- sizes
 difference : (a b : ℕ) (t : Bool) → ltb a b ≡ t → natAbs (cond t (negsuc (b - suc a)) (pos (a - b))) ≤ a + b
@@ -85,10 +70,6 @@ abs-negℤ (negsuc n) = refl
 
 pub abs-sub : (a b : ℤ) → natAbs (a -ℤ b) ≤ natAbs a + natAbs b
 abs-sub a b = omega (arith, abs-add a (negℤ b), abs-negℤ b)
-
-pub abs-withSign : (z : ℤ) (q : ℕ) → natAbs (withSign z q) ≡ q
-abs-withSign (pos a) q = refl
-abs-withSign (negsuc a) q = abs-negℤ (pos q)
 
 -- what fits 64 bits
 pub sfits-abs : (z : ℤ) → natAbs z < 2 ^ 63 → SFits w64 z

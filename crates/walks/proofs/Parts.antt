@@ -23,7 +23,7 @@ use borrow.Table.Owned as B
 use borrow.Table.Elements.{at}
 use borrow.Table.Copies.{Halved}
 use borrow.Rule.Slice.Prefix.{shs-part-same}
-use Rattle.records.proofs.Lending.{ref}
+use Rattle.walks.proofs.Lending.{ref}
 
 module _ {M : Type 1} (𝓤 : URA M) (H : Heap 𝓤) (A : Atoms 𝓤) (W : Given 𝓤 H A) (R : RattleType) (hv : Halved 𝓤 H A R) (ℓ ℓ′ : Lifetime) (κ : Lft) (q : Share) (b o n : ℕ) (γ : GName) (xs : List (R .Denot)) (a k p : ℕ) where
   abbrev part : List (R .Denot)

@@ -31,7 +31,7 @@ use denote.Laws.{Is, Tells}
 use denote.Ref.{RefT}
 use denote.Slice.{sliceVal, MutSlice, ShrSlice, Room, finally, res-finally, codedHoleys, heres}
 use denote.Steps.{only}
-use Rattle.records.proofs.Loans.{LentAgain, LentShared, lends-again, comes-back, lends-shared, shared-back}
+use Rattle.walks.proofs.Loans.{LentAgain, LentShared, lends-again, comes-back, lends-shared, shared-back}
 
 module _ (R : RattleType) (low : R .Denot → Val) (tells : Tells R (Is R) (λ d. low d ∷ [])) where
   pub result-is : (d r : R .Denot) (w : Val) → r ≡ d → Is R r (w ∷ []) → w ≡ low d
