@@ -18,7 +18,8 @@ use Rattle.event.proofs.Facts.{in-range}
 use Rattle.device.specs.Sorter.{sorting}
 use Rattle.tally.specs.Tally.{emptyTally, isVerdict}
 use Rattle.tallies.specs.Memory.{withTally, zeros, talliesLength}
-use Rattle.line.specs.Line.{stopped, paused, emergency, noError, inHand, isRunning, busy, withStatus, withSetup, withUndo}
+use Rattle.line.specs.Line.{stopped, paused, emergency, inHand, isRunning, busy, withStatus, withSetup, withUndo}
+use Rattle.event.specs.Reply.{noError}
 use Rattle.line.specs.Fit.{errorKnown, statusFit, itemFit}
 use Rattle.line.specs.Effect.{plain, halting, replied}
 use Rattle.line.specs.Sample.{sampled}

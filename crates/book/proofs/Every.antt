@@ -30,8 +30,8 @@ use Rattle.line.specs.Step.{accepted, refused, stepOf, stored, activeOf, settin
 use Rattle.undo.specs.declared.Undo.{Undo}
 use Rattle.undo.specs.declared.Undo.the-variants.{Nothing, Kept}
 use Rattle.line.specs.declared.line.Line.{Line}
-use Rattle.line.specs.declared.reply.Reply.{Reply}
-use Rattle.line.specs.declared.reply.Reply.the-variants.{Refused, Done}
+use Rattle.event.specs.declared.reply.Reply.{Reply}
+use Rattle.event.specs.declared.reply.Reply.the-variants.{Refused, Done}
 use Rattle.line.proofs.Facts.{FitLine, tells-fit}
 use Rattle.line.proofs.Accepted.{accepted-tells}
 use Rattle.book.specs.Book as book

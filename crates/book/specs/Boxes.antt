@@ -4,8 +4,8 @@ use mathlib.Core.Bool.{_&&_, _||_, not}
 use mathlib.Core.List.{List, [], _∷_}
 use lib.Dec.{eqb}
 use Rattle.laws.specs.Choice.{if_then_else_, within}
-use Rattle.line.specs.declared.reply.Reply.{Reply}
-use Rattle.line.specs.declared.reply.Reply.the-variants.{Refused, Done}
+use Rattle.event.specs.declared.reply.Reply.{Reply}
+use Rattle.event.specs.declared.reply.Reply.the-variants.{Refused, Done}
 use Rattle.line.specs.Effect.{bit}
 use Rattle.book.specs.Run.{Turn}
 

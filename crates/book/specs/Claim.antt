@@ -9,8 +9,8 @@ use Rattle.event.specs.declared.Event.the-variants.{Cancel}
 use Rattle.tallies.specs.Memory.{numbers, part}
 use Rattle.line.specs.Line.{inHand}
 use Rattle.line.specs.Effect.{bit}
-use Rattle.line.specs.declared.reply.Reply.{Reply}
-use Rattle.line.specs.declared.reply.Reply.the-variants.{Refused, Done}
+use Rattle.event.specs.declared.reply.Reply.{Reply}
+use Rattle.event.specs.declared.reply.Reply.the-variants.{Refused, Done}
 use Rattle.book.specs.Book.{talliedBy}
 use Rattle.book.specs.Page.{tallyOfPage}
 use Rattle.book.specs.Run.{World, run, answer, bookOf}

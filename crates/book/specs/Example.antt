@@ -5,9 +5,9 @@ use mathlib.Core.List.{List, [], _∷_, map}
 use lib.IntN.{ℤ, pos}
 use Rattle.event.specs.declared.Event.{Event}
 use Rattle.event.specs.declared.Event.the-variants.{Sample, Run, ClearCode, Setup, Store}
-use Rattle.line.specs.declared.reply.Reply.{Reply}
-use Rattle.line.specs.declared.reply.Reply.the-variants.{Refused, Done}
-use Rattle.line.specs.Line.{noError}
+use Rattle.event.specs.declared.reply.Reply.{Reply}
+use Rattle.event.specs.declared.reply.Reply.the-variants.{Refused, Done}
+use Rattle.event.specs.Reply.{noError}
 use Rattle.book.specs.Run.{Turn, run}
 
 abbrev pub events : List Event

@@ -10,7 +10,7 @@ use Rattle.line.specs.Line.{freshLine}
 use Rattle.line.specs.Tallying.{Out}
 use Rattle.line.specs.Step.{stepOn, settingsAfter}
 use Rattle.line.specs.declared.line.Line.{Line}
-use Rattle.line.specs.declared.reply.Reply.{Reply}
+use Rattle.event.specs.declared.reply.Reply.{Reply}
 use Rattle.book.specs.Book.{Book, firstBook, noted}
 
 -- an event and its reply

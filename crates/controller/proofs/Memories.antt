@@ -30,7 +30,7 @@ use denote.Triple.Clauses.{ensured, lasts}
 use Rattle.settings.specs.declared.Settings.{Settings}
 use Rattle.line.specs.declared.line.Line.{Line}
 use Rattle.event.specs.declared.Event.{Event}
-use Rattle.line.specs.declared.reply.Step.{Step}
+use Rattle.line.specs.declared.step.Step.{Step}
 use Rattle.sheet.specs.declared.answer.Report.{Report}
 use Rattle.sheet.specs.Report.{reportOn}
 use Rattle.line.specs.Tallying.{stepIn}
@@ -40,7 +40,7 @@ use Rattle.line.proofs.line.Line as L
 use Rattle.line.proofs.line.Line.Laws as L′
 use Rattle.event.proofs.Event as E
 use Rattle.event.proofs.Event.Laws as E′
-use Rattle.line.proofs.reply.Step as N
+use Rattle.line.proofs.step.Step as N
 use Rattle.sheet.proofs.answer.Report as P
 use Rattle.sheet.proofs.answer.Report.Laws as P′
 use Rattle.sheet.proofs.report as report

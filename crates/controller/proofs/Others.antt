@@ -34,9 +34,9 @@ use Rattle.text.proofs.Read as D
 use Rattle.text.proofs.Read.Laws as D′
 use Rattle.controller.specs.Answer.{replied, putAt, endAt}
 use Rattle.controller.specs.Serve.{otherAnswer, servedStep}
-use Rattle.line.specs.declared.reply.Step.{Step}
-use Rattle.line.proofs.reply.Step as N
-use Rattle.line.proofs.reply.Step.Laws as N′
+use Rattle.line.specs.declared.step.Step.{Step}
+use Rattle.line.proofs.step.Step as N
+use Rattle.line.proofs.step.Step.Laws as N′
 use Rattle.controller.specs.declared.Served.{Served}
 use Rattle.controller.proofs.Served as O
 use Rattle.controller.proofs.not_event as not-event

@@ -20,7 +20,7 @@ use Rattle.event.proofs.Event as E
 use Rattle.event.proofs.Event.Laws as E′
 use Rattle.sheet.specs.Report.{reportOn}
 use Rattle.line.specs.declared.line.Line.{Line}
-use Rattle.line.specs.declared.reply.Step.{Step}
+use Rattle.line.specs.declared.step.Step.{Step}
 use Rattle.line.specs.Tallying.{stepIn}
 use Rattle.line.specs.Step.{stepOn, settingsAfter}
 use Rattle.text.specs.declared.Read.{Read}

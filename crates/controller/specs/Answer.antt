@@ -11,8 +11,8 @@ use Rattle.tallies.specs.Memory.{talliesLength}
 use Rattle.sheet.specs.declared.answer.Report.{Report}
 use Rattle.sheet.specs.declared.answer.Report.the-variants as report
 use Rattle.sheet.specs.declared.sheet.Sheet.{Sheet}
-use Rattle.line.specs.declared.reply.Reply.{Reply}
-use Rattle.line.specs.declared.reply.Reply.the-variants.{Refused}
+use Rattle.event.specs.declared.reply.Reply.{Reply}
+use Rattle.event.specs.declared.reply.Reply.the-variants.{Refused}
 use Rattle.print.specs.Reply.{replyText}
 use Rattle.print.specs.Sheet.{sheetText}
 use Rattle.print.specs.Written.{written, lengthWritten}

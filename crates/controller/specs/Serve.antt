@@ -7,7 +7,7 @@ use Rattle.settings.specs.declared.Settings.{Settings}
 use Rattle.sheet.specs.Report.{reportOn}
 use Rattle.line.specs.Step.{stepOn, settingsAfter}
 use Rattle.line.specs.declared.line.Line.{Line}
-use Rattle.line.specs.declared.reply.Step.{Step}
+use Rattle.line.specs.declared.step.Step.{Step}
 use Rattle.text.specs.declared.Read.{Read}
 use Rattle.text.specs.declared.Read.the-variants as read
 use Rattle.controller.specs.Answer.{Answer, replied, reported, refusedText, putAt, endAt}

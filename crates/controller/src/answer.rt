@@ -2,7 +2,7 @@
 // room nothing is written.
 ghost use mathlib.Core.Path.{_≡_};
 ghost use Rattle.controller.specs.Answer.{replied, printed, reported, textRefusal, refusedText, putAt, endAt};
-use line::Reply;
+use event::Reply;
 use sheet::Report;
 use sheet::Sheet;
 

@@ -1,3 +1,4 @@
 pub mod Setup
 pub mod Sample
 pub mod Event
+pub mod Reply

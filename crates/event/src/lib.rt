@@ -4,6 +4,11 @@ ghost use mathlib.Core.Path.{_≡_};
 ghost use Rattle.event.specs.Setup.{setupRanged, edgeAgrees, setupFit};
 ghost use Rattle.event.specs.Sample.{sampleRanged};
 ghost use Rattle.event.specs.Event.{isCode, eventRanged, eventAgrees};
+
+mod reply;
+
+pub use reply::Done;
+pub use reply::Reply;
 use settings::Settings;
 use weight::is_weight;
 

@@ -15,8 +15,8 @@ use Rattle.line.specs.Tallying.{Out, untallied, tallied, passedOver, not
 use Rattle.line.specs.Step.{accepted}
 use Rattle.line.specs.declared.line.Line.{Line}
 use Rattle.line.specs.declared.effect.Effect.{Effect}
-use Rattle.line.specs.declared.reply.Reply.{Reply}
-use Rattle.line.specs.declared.reply.Reply.the-variants.{Refused, Done}
+use Rattle.event.specs.declared.reply.Reply.{Reply}
+use Rattle.event.specs.declared.reply.Reply.the-variants.{Refused, Done}
 
 abbrev pub isDone : Reply → Bool
 isDone (Refused number input) = false

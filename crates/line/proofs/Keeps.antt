@@ -13,7 +13,8 @@ use Rattle.device.specs.declared.foreign.Foreign.{Foreign}
 use Rattle.device.proofs.Keeps.{settled-keeps, ticked-fit, queued-fit, off-fit, ticked-delay}
 use Rattle.event.specs.declared.Sample.{Sample}
 use Rattle.event.proofs.Facts.{timers, InRange}
-use Rattle.line.specs.Line.{stopped, running, paused, emergency, noError, busy, withStatus, withSorter, withForeign, withItem}
+use Rattle.line.specs.Line.{stopped, running, paused, emergency, busy, withStatus, withSorter, withForeign, withItem}
+use Rattle.event.specs.Reply.{noError}
 use Rattle.line.specs.Fit.{lastFit, sensorFit, errorKnown, statusFit, itemFit}
 use Rattle.line.specs.Effect.{halted}
 use Rattle.line.specs.Verdict.{errorFor, sortedFor, stoppedFor}

@@ -19,8 +19,8 @@ use Rattle.line.specs.Refusal.{refusalOf}
 use Rattle.line.specs.Step.{accepted, stepOf, stored, activeOf, settingsAfter}
 use Rattle.line.specs.Storing.{storesNone, stores, storingFor}
 use Rattle.line.specs.declared.line.Line.{Line}
-use Rattle.line.specs.declared.reply.Reply.{Reply}
-use Rattle.line.specs.declared.reply.Reply.the-variants.{Refused, Done}
+use Rattle.event.specs.declared.reply.Reply.{Reply}
+use Rattle.event.specs.declared.reply.Reply.the-variants.{Refused, Done}
 use Rattle.line.specs.declared.storing.Storing.{Storing}
 use Rattle.line.proofs.Done.{isDone, accepted-done}
 

@@ -20,7 +20,8 @@ use Rattle.device.specs.Foreign.{flagUsed}
 use Rattle.event.specs.declared.Sample.{Sample}
 use Rattle.event.proofs.Facts.{timers, InRange}
 use Rattle.tally.specs.Tally.{isGrade}
-use Rattle.line.specs.Line.{stopped, running, paused, emergency, noError, isRunning, inHand, busy, withStatus, withForeign, withItem}
+use Rattle.line.specs.Line.{stopped, running, paused, emergency, isRunning, inHand, busy, withStatus, withForeign, withItem}
+use Rattle.event.specs.Reply.{noError}
 use Rattle.line.specs.Fit.{errorKnown, itemFit}
 use Rattle.line.specs.Effect.{bit, plain, halted, halting}
 use Rattle.line.specs.Verdict.{sortedFor, stoppedFor, given, orCrash, verdictOf, judged}

@@ -2,7 +2,8 @@
 use mathlib.Core.Bool.{_&&_}
 use lib.Dec.{eqb}
 use Rattle.laws.specs.Choice.{if_then_else_}
-use Rattle.line.specs.Line.{stopped, running, paused, emergency, noError, isRunning, busy, withStatus}
+use Rattle.line.specs.Line.{stopped, running, paused, emergency, isRunning, busy, withStatus}
+use Rattle.event.specs.Reply.{noError}
 use Rattle.line.specs.Effect.{plain, halting}
 use Rattle.line.specs.declared.line.Line.{Line}
 use Rattle.line.specs.declared.effect.Effect.{Effect}

@@ -4,12 +4,13 @@ use mathlib.Core.Bool.{Bool, true, false}
 use lib.IntN.{pos}
 use Rattle.laws.specs.Choice.{if_then_else_}
 use Rattle.device.specs.Sorter.{sorterOff}
-use Rattle.line.specs.Line.{noError, inHand, busy, conveyor, sorterOn}
+use Rattle.line.specs.Line.{inHand, busy, conveyor, sorterOn}
+use Rattle.event.specs.Reply.{noError}
 use Rattle.line.specs.declared.item.Item.the-variants.{None}
 use Rattle.line.specs.declared.line.Line.{Line}
 use Rattle.line.specs.declared.effect.Effect.{Effect}
-use Rattle.line.specs.declared.reply.Reply.{Reply}
-use Rattle.line.specs.declared.reply.Reply.the-variants.{Done as done}
+use Rattle.event.specs.declared.reply.Reply.{Reply}
+use Rattle.event.specs.declared.reply.Reply.the-variants.{Done as done}
 
 -- an effect on the line alone
 abbrev pub plain : Line → Effect

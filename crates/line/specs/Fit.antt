@@ -11,7 +11,8 @@ use Rattle.event.specs.Setup.{setupFit}
 use Rattle.event.specs.Event.{isCode}
 use Rattle.event.specs.declared.Setup.{Setup}
 use Rattle.undo.specs.Undo.{undoFit}
-use Rattle.line.specs.Line.{stopped, paused, emergency, noError, busy}
+use Rattle.line.specs.Line.{stopped, paused, emergency, busy}
+use Rattle.event.specs.Reply.{noError}
 use Rattle.line.specs.declared.item.Item.{Item}
 use Rattle.line.specs.declared.item.Item.the-variants.{None, Waiting, Averaging}
 use Rattle.line.specs.declared.line.Last.{Last}

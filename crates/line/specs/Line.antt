@@ -8,6 +8,7 @@ use Rattle.device.specs.Foreign.{noSignal}
 use Rattle.device.specs.declared.sensor.Sensor.{Sensor}
 use Rattle.device.specs.declared.sorter.Sorter.{Sorter}
 use Rattle.device.specs.declared.foreign.Foreign.{Foreign}
+use Rattle.event.specs.Reply.{noError}
 use Rattle.event.specs.declared.Setup.{Setup}
 use Rattle.line.specs.declared.item.Item.{Item}
 use Rattle.line.specs.declared.item.Item.the-variants.{None, Waiting, Averaging}
@@ -28,10 +29,6 @@ paused = 2
 
 abbrev pub emergency : ℕ
 emergency = 3
-
--- error none; the errors that 01 knows are 0, 1, 2, 5 and 6
-abbrev pub noError : ℕ
-noError = 255
 
 abbrev pub isRunning : Line → Bool
 isRunning l = eqb (l .status) running

@@ -9,14 +9,15 @@ use Rattle.settings.specs.Settings.{blank}
 use Rattle.settings.specs.declared.Settings.{Settings}
 use Rattle.event.specs.declared.Event.{Event}
 use Rattle.event.specs.declared.Event.the-variants.{Sample, Run, Stop, Emergency, Recall, Cancel, ClearCode, ClearAll, ErrorReset, NoOperation, Setup, Store}
-use Rattle.line.specs.Line.{noError, withStatus, withSetup}
+use Rattle.line.specs.Line.{withStatus, withSetup}
+use Rattle.event.specs.Reply.{noError}
 use Rattle.line.specs.Effect.{plain}
 use Rattle.line.specs.Sample.{sampled}
 use Rattle.line.specs.Command.{ran, stopping, alarmed}
 use Rattle.line.specs.Tallying.{Out, untallied, recorded, cancelled, recalled, clearedOne, clearedAll}
 use Rattle.line.specs.Refusal.{refusalOf, inputOf}
 use Rattle.line.specs.declared.line.Line.{Line}
-use Rattle.line.specs.declared.reply.Reply.the-variants.{Refused}
+use Rattle.event.specs.declared.reply.Reply.the-variants.{Refused}
 
 -- a is the active code's record
 unfoldable pub accepted : Line → Settings → List ℤ → Event → Out

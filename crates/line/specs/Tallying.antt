@@ -13,8 +13,8 @@ use Rattle.undo.specs.Undo.{restored}
 use Rattle.undo.specs.declared.Undo.the-variants.{Nothing, Kept}
 use Rattle.line.specs.declared.line.Line.{Line}
 use Rattle.line.specs.declared.effect.Effect.{Effect}
-use Rattle.line.specs.declared.reply.Reply.{Reply}
-use Rattle.line.specs.declared.reply.Step.{Step}
+use Rattle.event.specs.declared.reply.Reply.{Reply}
+use Rattle.line.specs.declared.step.Step.{Step}
 
 -- what an event hands back: the next line, the tallies and the reply
 pub record Out : Type 0 where

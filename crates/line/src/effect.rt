@@ -3,9 +3,9 @@ ghost use mathlib.Core.Path.{_≡_};
 ghost use Rattle.line.specs.Effect.{plain, dismissed, halted, halting, bit, replied};
 use crate::item::Item;
 use crate::line::Line;
-use crate::reply::Done;
-use crate::reply::Reply;
 use device::Sorter;
+use event::Done;
+use event::Reply;
 
 pub struct Effect {
     pub line: Line,

@@ -5,6 +5,7 @@ use crate::item::Item;
 use device::Foreign;
 use device::Sensor;
 use device::Sorter;
+use event::Done;
 use event::Setup;
 use undo::Undo;
 
@@ -37,7 +38,7 @@ impl Line {
 
     pub const EMERGENCY: u64 = 3;
     // error none
-    pub const NO_ERROR: u64 = 255;
+    pub const NO_ERROR: u64 = Done::NO_ERROR;
 
     // verdicts that a code's tally takes, and waits that the queue takes
     pub const TALLY_LIMIT: u64 = 999_999;

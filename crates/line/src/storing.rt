@@ -1,9 +1,9 @@
 // Which settings record an event replaces.
 ghost use mathlib.Core.Path.{_≡_};
 ghost use Rattle.line.specs.Storing.{stores, storingFor};
-use crate::reply::Reply;
-use crate::reply::Step;
+use crate::step::Step;
 use event::Event;
+use event::Reply;
 use settings::Settings;
 
 // The record of `code` becomes `settings`; a code past the end stands for none.

@@ -10,7 +10,7 @@ ghost use Rattle.tallies.specs.Memory.{talliesLength, tallyAt, tallyAtFit};
 ghost use Rattle.line.specs.Tallying.{stepIn, untallied, noted, recorded};
 use crate::effect::Effect;
 use crate::effect::bit;
-use crate::reply::Step;
+use crate::step::Step;
 
 impl Effect {
     // The next line with a reply that tallies nothing.

@@ -3,14 +3,14 @@ use Prim.Native.Nat.{ℕ}
 use mathlib.Core.List.{List, [], _∷_, _++_}
 use lib.Dec.{eqb}
 use Rattle.laws.specs.Choice.{if_then_else_}
-use Rattle.line.specs.declared.reply.Done.{Done as DoneFields}
-use Rattle.line.specs.declared.reply.Reply.{Reply}
-use Rattle.line.specs.declared.reply.Reply.the-variants.{Refused, Done}
+use Rattle.event.specs.Reply.{noError}
+use Rattle.event.specs.declared.reply.Done.{Done as DoneFields}
+use Rattle.event.specs.declared.reply.Reply.{Reply}
+use Rattle.event.specs.declared.reply.Reply.the-variants.{Refused, Done}
 use Rattle.print.specs.Text.{plain, lf, decimal, signed, none, field, joined}
 
--- 255 stands for none
 abbrev pub errorText : ℕ → List ℕ
-errorText error = if eqb error 255 then none else decimal error
+errorText error = if eqb error noError then none else decimal error
 
 -- what the line shows after the event
 abbrev pub shown : DoneFields → List (List ℕ)

@@ -10,9 +10,8 @@ use crate::field::put_count;
 use crate::field::put_none;
 use crate::field::put_number;
 use crate::text::put;
-use line::Done;
-use line::Line;
-use line::Reply;
+use event::Done;
+use event::Reply;
 
 // The reply as a line at the front of `out`, and its length. No line has more than 252 bytes: a buffer of fewer than 256 is
 // left as it is, and the answer is 0.
@@ -72,7 +71,7 @@ fn put_error(out: &mut [u8], at: usize, key: &[u8], error: u64) -> usize
     requires { ⌜ at + length (now key) + 20 ≤ length (now out) ⌝ }
     ensures { λ r. ⌜ Field (now (out .entry)) at (now (key .entry)) (errorText error) (now (out .exit)) r ⌝ }
 {
-    if error == Line::NO_ERROR {
+    if error == Done::NO_ERROR {
         return put_none(out, at, key);
     }
     put_count(out, at, key, error)

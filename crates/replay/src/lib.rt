@@ -6,8 +6,8 @@ ghost use Rattle.line.specs.Step.{stepOn};
 ghost use Rattle.book.specs.Claim.{Stands};
 ghost use Rattle.replay.specs.Replay.{freshPlant, steppedBy, turnedBy, plantIn, replayed};
 use event::Event;
+use event::Reply;
 use line::Line;
-use line::Reply;
 use line::Step;
 use settings::Settings;
 

@@ -6,7 +6,7 @@ use Prim.Native.String.{String}
 use lib.IntN.{pos}
 use Rattle.weight.specs.declared.Figure.the-variants.{Of}
 use Rattle.spread.specs.declared.Spread.the-variants.{None as NoSpread, Of as SpreadOf}
-use Rattle.line.specs.declared.reply.Reply.the-variants.{Refused, Done}
+use Rattle.event.specs.declared.reply.Reply.the-variants.{Refused, Done}
 use Rattle.sheet.specs.declared.sheet.Sheet.{Sheet}
 use Rattle.print.specs.Text.{plain, lf}
 use Rattle.print.specs.Reply.{replyText}

@@ -50,7 +50,7 @@ use Rattle.line.specs.declared.line.Line.{Line}
 use Rattle.event.specs.declared.Event.{Event}
 use Rattle.line.specs.Tallying.{stepIn}
 use Rattle.line.specs.Step.{stepOn, settingsAfter}
-use Rattle.line.specs.declared.reply.Step.{Step}
+use Rattle.line.specs.declared.step.Step.{Step}
 use Rattle.text.specs.declared.Read.{Read}
 use Rattle.text.specs.Read.{readLine}
 use Rattle.controller.specs.Answer.{Answer, replied, putAt, endAt}
@@ -61,8 +61,8 @@ use Rattle.line.proofs.line.Line as L
 use Rattle.line.proofs.line.Line.Laws as L′
 use Rattle.event.proofs.Event as E
 use Rattle.event.proofs.Event.Laws as E′
-use Rattle.line.proofs.reply.Step as N
-use Rattle.line.proofs.reply.Step.Laws as N′
+use Rattle.line.proofs.step.Step as N
+use Rattle.line.proofs.step.Step.Laws as N′
 use Rattle.text.proofs.Read as D
 use Rattle.text.proofs.Read.Laws as D′
 use Rattle.controller.proofs.Served as O

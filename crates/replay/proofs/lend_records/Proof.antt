@@ -57,11 +57,11 @@ use Rattle.event.proofs.Event.Laws as E′
 use Rattle.line.specs.Tallying.{stepIn}
 use Rattle.line.specs.Step.{stepOn, settingsAfter}
 use Rattle.line.specs.declared.line.Line.{Line}
-use Rattle.line.specs.declared.reply.Step.{Step}
+use Rattle.line.specs.declared.step.Step.{Step}
 use Rattle.line.proofs.line.Line as L
 use Rattle.line.proofs.line.Line.Laws as L′
-use Rattle.line.proofs.reply.Step as S
-use Rattle.line.proofs.reply.Step.Laws as S′
+use Rattle.line.proofs.step.Step as S
+use Rattle.line.proofs.step.Step.Laws as S′
 use Rattle.line.proofs.line.Line.apply as apply
 use Rattle.line.proofs.line.Line.apply.Symbol as apply-def
 use Rattle.line.proofs.line.Line.apply.Symbol.{name as #apply}

@@ -15,7 +15,7 @@ use Rattle.line.specs.Effect.{bit, replied}
 use Rattle.line.specs.Line.{withUndo}
 use Rattle.line.specs.Tallying.{stepIn, noted}
 use Rattle.line.specs.declared.effect.Effect.{Effect}
-use Rattle.line.specs.declared.reply.Step.{Step}
+use Rattle.line.specs.declared.step.Step.{Step}
 use Rattle.line.proofs.effect.Effect.noted.Statement.{statement}
 use Rattle.line.proofs.effect.Effect.noted.Tie as tie
 

@@ -62,12 +62,12 @@ use Rattle.line.specs.Tallying.{stepIn}
 use Rattle.line.specs.Step.{stepOf}
 use Rattle.line.specs.Storing.{storingFor}
 use Rattle.line.specs.declared.line.Line.{Line}
-use Rattle.line.specs.declared.reply.Step.{Step}
+use Rattle.line.specs.declared.step.Step.{Step}
 use Rattle.line.specs.declared.storing.Storing.{Storing}
 use Rattle.line.proofs.line.Line as L
 use Rattle.line.proofs.line.Line.Laws as L′
-use Rattle.line.proofs.reply.Step as N
-use Rattle.line.proofs.reply.Step.Laws as N′
+use Rattle.line.proofs.step.Step as N
+use Rattle.line.proofs.step.Step.Laws as N′
 use Rattle.line.proofs.storing.Storing as O
 use Rattle.line.proofs.storing.Storing.Laws as O′
 use Rattle.line.proofs.Stores.{storedBy, stored-after}

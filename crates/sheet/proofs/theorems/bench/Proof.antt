@@ -7,8 +7,8 @@ use Rattle.spread.specs.Figures.{fitOf, spreadOf}
 use Rattle.tally.specs.Tally.{countedWith, weighedWith, added}
 use Rattle.sheet.specs.Sheet.{sheetOf}
 use Rattle.sheet.specs.Bench.{tallied}
-use Rattle.sheet.proofs.laws.bench.Statement.{statement}
-use Rattle.sheet.proofs.laws.bench.Tie as tie
+use Rattle.sheet.proofs.theorems.bench.Statement.{statement}
+use Rattle.sheet.proofs.theorems.bench.Tie as tie
 
 returns : tie.Need-returns
 unfolding nearest rounded gradeOf root rootFrom fitOf spreadOf countedWith weighedWith added sheetOf tallied
