@@ -4,9 +4,9 @@ ghost use lib.ListN.{length};
 ghost use Rattle.print.specs.Text.{decimal, signed, none};
 ghost use Rattle.print.specs.Sheet.{figureText, spreadText};
 ghost use Rattle.print.specs.Steps.{Field};
-use crate::text::put;
-use crate::text::put_decimal;
-use crate::text::put_signed;
+use crate::buffer::put;
+use crate::buffer::put_decimal;
+use crate::buffer::put_signed;
 use spread::Spread;
 use weight::Figure;
 

@@ -6,10 +6,10 @@ ghost use Rattle.print.specs.Text.{plain, ahead, joined};
 ghost use Rattle.print.specs.Reply.{errorText, shown, did, doneText, refusedText, replyText};
 ghost use Rattle.print.specs.Written.{written, lengthWritten};
 ghost use Rattle.print.specs.Steps.{Wrote, Field};
+use crate::buffer::put;
 use crate::field::put_count;
 use crate::field::put_none;
 use crate::field::put_number;
-use crate::text::put;
 use event::Done;
 use event::Reply;
 

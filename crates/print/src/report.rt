@@ -6,11 +6,11 @@ ghost use Rattle.print.specs.Text.{lf, ahead, joined};
 ghost use Rattle.print.specs.Sheet.{totals, grades, faults, weights, spreads, sheetText};
 ghost use Rattle.print.specs.Written.{written, lengthWritten};
 ghost use Rattle.print.specs.Steps.{Wrote};
+use crate::buffer::put;
 use crate::field::put_count;
 use crate::field::put_figure;
 use crate::field::put_number;
 use crate::field::put_spread;
-use crate::text::put;
 use sheet::Sheet;
 
 // The sheet of a code as eighteen lines at the front of `out`, and their length. They have at most 466 bytes: a buffer of

@@ -12,8 +12,8 @@ use Rattle.print.specs.Text.{decimal, signed}
 use Rattle.print.proofs.Put.{wrote-then, wrote-in, wrote-as, wrote-byte}
 use Rattle.print.proofs.Decimal.{signed-above, signed-below, size-at-most-19}
 use borrow.Author.Needs.{needs}
-use Rattle.print.proofs.text.put_signed.Statement.{statement}
-use Rattle.print.proofs.text.put_signed.Tie as tie
+use Rattle.print.proofs.buffer.put_signed.Statement.{statement}
+use Rattle.print.proofs.buffer.put_signed.Tie as tie
 
 size-is : (c : tie.After-size) → c .size .result ≡ natAbs (c .before .before .before .before .args .v)
 size-is c = rw (toZ-ofZ (c .before .before .before .before .fits .v)) at (c .size .ensures)

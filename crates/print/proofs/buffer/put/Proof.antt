@@ -8,8 +8,8 @@ use lib.ListN.{length, getD, length-set}
 use lib.Seq.{paste, paste-zero, paste-suc}
 use denote.Ref.{now}
 use Rattle.print.proofs.Put.{put-pasted}
-use Rattle.print.proofs.text.put.Statement.{statement}
-use Rattle.print.proofs.text.put.Tie as tie
+use Rattle.print.proofs.buffer.put.Statement.{statement}
+use Rattle.print.proofs.buffer.put.Tie as tie
 
 abbrev Inv-loop : tie.InvT-loop
 Inv-loop out₀ at text j₀ out j = (j ≤ length text) × (length out ≡ length out₀) × (out ≡ paste out₀ at text j)

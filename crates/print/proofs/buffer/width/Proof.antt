@@ -6,8 +6,8 @@ use native.Mathlib.Omega.{arith}
 use lib.ListN.{length}
 use Rattle.print.specs.Text.{decimal}
 use Rattle.print.proofs.Decimal.{length-digit, length-more, at-most-20}
-use Rattle.print.proofs.text.width.Statement.{statement}
-use Rattle.print.proofs.text.width.Tie as tie
+use Rattle.print.proofs.buffer.width.Statement.{statement}
+use Rattle.print.proofs.buffer.width.Tie as tie
 
 abbrev Inv-loop : tie.InvT-loop
 Inv-loop n digits₀ m₀ digits m = digits + length (decimal m) ≡ length (decimal n) + 1

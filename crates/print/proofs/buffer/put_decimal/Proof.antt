@@ -8,8 +8,8 @@ use Rattle.print.specs.Text.{decimal}
 use Rattle.print.specs.Steps.{putAt}
 use Rattle.print.proofs.Put.{put-one, put-last}
 use Rattle.print.proofs.Decimal.{decimal-digit, decimal-more, length-digit, length-more}
-use Rattle.print.proofs.text.put_decimal.Statement.{statement}
-use Rattle.print.proofs.text.put_decimal.Tie as tie
+use Rattle.print.proofs.buffer.put_decimal.Statement.{statement}
+use Rattle.print.proofs.buffer.put_decimal.Tie as tie
 
 abbrev Inv-loop : tie.InvT-loop
 Inv-loop out₀ at n end place₀ m₀ out place m =
