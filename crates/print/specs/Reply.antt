@@ -7,7 +7,9 @@ use Rattle.event.specs.Reply.{noError}
 use Rattle.event.specs.declared.reply.Done.{Done as DoneFields}
 use Rattle.event.specs.declared.reply.Reply.{Reply}
 use Rattle.event.specs.declared.reply.Reply.the-variants.{Refused, Done}
-use Rattle.print.specs.Text.{plain, lf, decimal, signed, none, field, joined}
+use Rattle.decimal.specs.Bytes.{bytes}
+use Rattle.decimal.specs.Number.{decimal, numberText}
+use Rattle.print.specs.Text.{lineEnd, none, field, joined}
 
 abbrev pub errorText : ℕ → List ℕ
 errorText error = if eqb error noError then none else decimal error
@@ -26,16 +28,16 @@ abbrev pub did : DoneFields → List (List ℕ)
 did d =
     field "detected" (decimal (d .detected))
     ∷ field "outcome" (decimal (d .outcome))
-    ∷ field "net" (signed (d .net))
+    ∷ field "net" (numberText (d .net))
     ∷ field "tallied" (decimal (d .tallied))
     ∷ field "error" (errorText (d .error))
     ∷ []
 
 unfoldable pub doneText : DoneFields → List ℕ
-doneText d = joined (plain " ") (shown d ++ did d) ++ lf
+doneText d = joined (bytes " ") (shown d ++ did d) ++ lineEnd
 
 unfoldable pub refusedText : ℕ → ℕ → List ℕ
-refusedText number input = joined (plain " ") (field "refused" (decimal number) ∷ field "input" (decimal input) ∷ []) ++ lf
+refusedText number input = joined (bytes " ") (field "refused" (decimal number) ∷ field "input" (decimal input) ∷ []) ++ lineEnd
 
 abbrev pub replyText : Reply → List ℕ
 replyText (Refused number input) = refusedText number input

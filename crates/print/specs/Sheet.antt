@@ -6,11 +6,12 @@ use Rattle.weight.specs.declared.Figure.the-variants.{None, Of}
 use Rattle.spread.specs.declared.Spread.{Spread}
 use Rattle.spread.specs.declared.Spread.the-variants.{None as NoSpread, Of as SpreadOf}
 use Rattle.sheet.specs.declared.sheet.Sheet.{Sheet}
-use Rattle.print.specs.Text.{lf, decimal, signed, none, field, joined}
+use Rattle.decimal.specs.Number.{decimal, numberText}
+use Rattle.print.specs.Text.{lineEnd, none, field, joined}
 
 abbrev pub figureText : Figure → List ℕ
 figureText None = none
-figureText (Of v) = signed v
+figureText (Of v) = numberText v
 
 abbrev pub spreadText : Spread → List ℕ
 spreadText NoSpread = none
@@ -35,7 +36,7 @@ abbrev pub weights : Sheet → List (List ℕ)
 weights s =
     field "max" (figureText (s .max))
     ∷ field "min" (figureText (s .min))
-    ∷ field "sum" (signed (s .sum))
+    ∷ field "sum" (numberText (s .sum))
     ∷ field "mean" (figureText (s .mean))
     ∷ field "deviation" (figureText (s .deviation))
     ∷ []
@@ -44,4 +45,4 @@ abbrev pub spreads : Sheet → List (List ℕ)
 spreads s = field "sd" (spreadText (s .sd)) ∷ field "sdp" (spreadText (s .sdp)) ∷ []
 
 unfoldable pub sheetText : ℕ → Sheet → List ℕ
-sheetText code s = joined lf (totals code s ++ (grades s ++ (faults s ++ (weights s ++ spreads s)))) ++ lf
+sheetText code s = joined lineEnd (totals code s ++ (grades s ++ (faults s ++ (weights s ++ spreads s)))) ++ lineEnd

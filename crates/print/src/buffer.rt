@@ -2,7 +2,7 @@
 ghost use mathlib.Core.Path.{_≡_};
 ghost use Prim.Native.Nat.{_+_, _≤_, _<_};
 ghost use lib.ListN.{length};
-ghost use Rattle.print.specs.Text.{decimal, signed};
+ghost use Rattle.decimal.specs.Number.{decimal, numberText};
 ghost use Rattle.print.specs.Steps.{Wrote};
 use weight::size;
 
@@ -37,7 +37,7 @@ pub(crate) fn put_decimal(out: &mut [u8], at: usize, n: u64) -> usize
 
 pub(crate) fn put_signed(out: &mut [u8], at: usize, v: i64) -> usize
     requires { ⌜ at + 20 ≤ length (now out) ⌝ }
-    ensures { λ r. ⌜ Wrote (now (out .entry)) at (signed v) 20 (now (out .exit)) r ⌝ }
+    ensures { λ r. ⌜ Wrote (now (out .entry)) at (numberText v) 20 (now (out .exit)) r ⌝ }
 {
     if 0 <= v {
         return put_decimal(out, at, size(v));

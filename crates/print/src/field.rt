@@ -1,7 +1,8 @@
 // A field: its key, given with what separates it from the field before and with its `=`, and its value.
 ghost use Prim.Native.Nat.{_+_, _≤_};
 ghost use lib.ListN.{length};
-ghost use Rattle.print.specs.Text.{decimal, signed, none};
+ghost use Rattle.decimal.specs.Number.{decimal, numberText};
+ghost use Rattle.print.specs.Text.{none};
 ghost use Rattle.print.specs.Sheet.{figureText, spreadText};
 ghost use Rattle.print.specs.Steps.{Field};
 use crate::buffer::put;
@@ -20,7 +21,7 @@ pub(crate) fn put_count(out: &mut [u8], at: usize, key: &[u8], n: u64) -> usize
 
 pub(crate) fn put_number(out: &mut [u8], at: usize, key: &[u8], v: i64) -> usize
     requires { ⌜ at + length (now key) + 20 ≤ length (now out) ⌝ }
-    ensures { λ r. ⌜ Field (now (out .entry)) at (now (key .entry)) (signed v) (now (out .exit)) r ⌝ }
+    ensures { λ r. ⌜ Field (now (out .entry)) at (now (key .entry)) (numberText v) (now (out .exit)) r ⌝ }
 {
     let value = put(out, at, key);
     put_signed(out, value, v)

@@ -2,7 +2,8 @@
 ghost use mathlib.Core.Path.{_≡_};
 ghost use Prim.Native.Nat.{_+_, _≤_};
 ghost use lib.ListN.{length};
-ghost use Rattle.print.specs.Text.{plain, ahead, joined};
+ghost use Rattle.decimal.specs.Bytes.{bytes};
+ghost use Rattle.print.specs.Text.{ahead, joined};
 ghost use Rattle.print.specs.Reply.{errorText, shown, did, doneText, refusedText, replyText};
 ghost use Rattle.print.specs.Written.{written, lengthWritten};
 ghost use Rattle.print.specs.Steps.{Wrote, Field};
@@ -48,7 +49,7 @@ fn put_done(out: &mut [u8], d: Done) -> usize
 
 fn put_shown(out: &mut [u8], d: Done) -> usize
     requires { ⌜ 111 ≤ length (now out) ⌝ }
-    ensures { λ r. ⌜ Wrote (now (out .entry)) 0 (joined (plain " ") (shown d)) 111 (now (out .exit)) r ⌝ }
+    ensures { λ r. ⌜ Wrote (now (out .entry)) 0 (joined (bytes " ") (shown d)) 111 (now (out .exit)) r ⌝ }
 {
     let a = put_count(out, 0, b"status=", d.status);
     let b = put_count(out, a, b" busy=", d.busy);
@@ -58,7 +59,7 @@ fn put_shown(out: &mut [u8], d: Done) -> usize
 
 fn put_did(out: &mut [u8], at: usize, d: Done) -> usize
     requires { ⌜ at + 140 ≤ length (now out) ⌝ }
-    ensures { λ r. ⌜ Wrote (now (out .entry)) at (ahead (plain " ") (did d)) 140 (now (out .exit)) r ⌝ }
+    ensures { λ r. ⌜ Wrote (now (out .entry)) at (ahead (bytes " ") (did d)) 140 (now (out .exit)) r ⌝ }
 {
     let a = put_count(out, at, b" detected=", d.detected);
     let b = put_count(out, a, b" outcome=", d.outcome);

@@ -2,7 +2,7 @@
 ghost use mathlib.Core.Path.{_≡_};
 ghost use Prim.Native.Nat.{_+_, _≤_};
 ghost use lib.ListN.{length};
-ghost use Rattle.print.specs.Text.{lf, ahead, joined};
+ghost use Rattle.print.specs.Text.{lineEnd, ahead, joined};
 ghost use Rattle.print.specs.Sheet.{totals, grades, faults, weights, spreads, sheetText};
 ghost use Rattle.print.specs.Written.{written, lengthWritten};
 ghost use Rattle.print.specs.Steps.{Wrote};
@@ -32,7 +32,7 @@ pub fn sheet_lines(out: &mut [u8], code: u64, s: Sheet) -> usize
 
 fn put_totals(out: &mut [u8], code: u64, s: Sheet) -> usize
     requires { ⌜ 76 ≤ length (now out) ⌝ }
-    ensures { λ r. ⌜ Wrote (now (out .entry)) 0 (joined lf (totals code s)) 76 (now (out .exit)) r ⌝ }
+    ensures { λ r. ⌜ Wrote (now (out .entry)) 0 (joined lineEnd (totals code s)) 76 (now (out .exit)) r ⌝ }
 {
     let a = put_count(out, 0, b"code=", code);
     let b = put_count(out, a, b"\ntotal=", s.total);
@@ -41,7 +41,7 @@ fn put_totals(out: &mut [u8], code: u64, s: Sheet) -> usize
 
 fn put_grades(out: &mut [u8], at: usize, s: Sheet) -> usize
     requires { ⌜ at + 124 ≤ length (now out) ⌝ }
-    ensures { λ r. ⌜ Wrote (now (out .entry)) at (ahead lf (grades s)) 124 (now (out .exit)) r ⌝ }
+    ensures { λ r. ⌜ Wrote (now (out .entry)) at (ahead lineEnd (grades s)) 124 (now (out .exit)) r ⌝ }
 {
     let a = put_count(out, at, b"\nlolo=", s.lolo);
     let b = put_count(out, a, b"\nlo=", s.lo);
@@ -52,7 +52,7 @@ fn put_grades(out: &mut [u8], at: usize, s: Sheet) -> usize
 
 fn put_faults(out: &mut [u8], at: usize, s: Sheet) -> usize
     requires { ⌜ at + 84 ≤ length (now out) ⌝ }
-    ensures { λ r. ⌜ Wrote (now (out .entry)) at (ahead lf (faults s)) 84 (now (out .exit)) r ⌝ }
+    ensures { λ r. ⌜ Wrote (now (out .entry)) at (ahead lineEnd (faults s)) 84 (now (out .exit)) r ⌝ }
 {
     let a = put_count(out, at, b"\nforeign=", s.foreign);
     let b = put_count(out, a, b"\ndouble=", s.double);
@@ -61,7 +61,7 @@ fn put_faults(out: &mut [u8], at: usize, s: Sheet) -> usize
 
 fn put_weights(out: &mut [u8], at: usize, s: Sheet) -> usize
     requires { ⌜ at + 132 ≤ length (now out) ⌝ }
-    ensures { λ r. ⌜ Wrote (now (out .entry)) at (ahead lf (weights s)) 132 (now (out .exit)) r ⌝ }
+    ensures { λ r. ⌜ Wrote (now (out .entry)) at (ahead lineEnd (weights s)) 132 (now (out .exit)) r ⌝ }
 {
     let max = s.max;
     let min = s.min;
@@ -76,7 +76,7 @@ fn put_weights(out: &mut [u8], at: usize, s: Sheet) -> usize
 
 fn put_spreads(out: &mut [u8], at: usize, s: Sheet) -> usize
     requires { ⌜ at + 49 ≤ length (now out) ⌝ }
-    ensures { λ r. ⌜ Wrote (now (out .entry)) at (ahead lf (spreads s)) 49 (now (out .exit)) r ⌝ }
+    ensures { λ r. ⌜ Wrote (now (out .entry)) at (ahead lineEnd (spreads s)) 49 (now (out .exit)) r ⌝ }
 {
     let sd = s.sd;
     let sdp = s.sdp;

@@ -1,8 +1,8 @@
--- 01, "Text lines": how a number is written, and how it is read. A text is a list of bytes.
-use Prim.Native.Nat.{ℕ, zero, suc, _+_, _-_, _*_, _/_, _%_}
+-- 01, "Text lines": how a number is read, and how four digits are written.
+use Prim.Native.Nat.{ℕ, _+_, _-_, _*_, _/_, _%_}
 use mathlib.Core.Bool.{Bool, true, false, _&&_}
-use mathlib.Core.List.{List, [], _∷_, _++_}
-use lib.Dec.{ltb, eqb}
+use mathlib.Core.List.{List, [], _∷_}
+use lib.Dec.{eqb}
 use lib.IntN.{ℤ, pos, negsuc, negℤ}
 use Rattle.laws.specs.Choice.{if_then_else_, within}
 
@@ -48,18 +48,7 @@ fourHead (a ∷ b ∷ []) = none
 fourHead (a ∷ b ∷ c ∷ []) = none
 fourHead (a ∷ b ∷ c ∷ d ∷ s) = if fourDigits a b c d then some (pos (fourNumber a b c d)) s else none
 
--- The writer. A number below 10 is its digit, any other its tenth and its last digit; k bounds the number of digits.
-abbrev pub decimalBy : ℕ → ℕ → List ℕ
-decimalBy zero n = []
-decimalBy (suc k) n = if ltb n 10 then (48 + n) ∷ [] else (decimalBy k (n / 10) ++ (48 + n % 10) ∷ [])
-
-abbrev pub decimal : ℕ → List ℕ
-decimal n = decimalBy (suc n) n
-
-abbrev pub numberText : ℤ → List ℕ
-numberText (pos n) = decimal n
-numberText (negsuc n) = 45 ∷ decimal (suc n)
-
+-- and the writer: a number from 0 to 9999
 abbrev pub fourText : ℤ → List ℕ
 fourText (pos n) = (48 + n / 10 / 10 / 10) ∷ (48 + n / 10 / 10 % 10) ∷ (48 + n / 10 % 10) ∷ (48 + n % 10) ∷ []
 fourText (negsuc n) = []

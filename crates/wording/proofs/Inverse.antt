@@ -3,15 +3,17 @@ use Prim.Native.Nat.{ℕ, suc, zero, _+_, _-_, _*_, _/_, _%_, _≤_, _<_}
 use mathlib.Core.Path.{_≡_, refl, sym, ap, _∙_}
 use mathlib.Core.Bool.{Bool, true, false}
 use mathlib.Core.List.{List, [], _∷_, _++_, append-assoc, append-nil}
-use lib.Dec.{leb, ltb, eqb}
+use lib.Dec.{leb, eqb}
 use lib.IntN.{ℤ, pos, negsuc}
 use lib.ListN.{length}
 use native.Mathlib.Omega.{arith}
-use borrow.Author.Tests.{lt-ltb, le-ltb, le-leb, eq-eqb, ne-eqb, ltb-true, ltb-false, leb-true, eqb-true}
+use borrow.Author.Tests.{le-leb, eq-eqb, ne-eqb, leb-true, eqb-true}
 use Prim.Native.String.{String, [] as empty, _∷_ as _then_}
 use Rattle.laws.specs.Choice.{if_then_else_, within}
-use Rattle.laws.proofs.Tests.{both, if-ind, clash}
-use Rattle.text.specs.Number.{Head, none, some, isDigit, signed, digits, positive, numberHead, fourDigits, fourNumber, fourHead, decimalBy, decimal, numberText, fourText}
+use Rattle.laws.proofs.Tests.{both, clash}
+use Rattle.decimal.specs.Number.{decimal, numberText}
+use Rattle.decimal.proofs.Digits.{decimal-digit, decimal-more, by-digits}
+use Rattle.text.specs.Number.{Head, none, some, isDigit, signed, digits, positive, numberHead, fourDigits, fourNumber, fourHead, fourText}
 use Rattle.text.specs.Form.{Item, byte, number, four, plain, fieldItems, moreItems, fieldsForm, Values, other, values, also, andRest, lineValues, lineText}
 use Rattle.wording.specs.OneText.{OneText}
 use Rattle.text.specs.Views.{digitFrom}
@@ -25,32 +27,28 @@ digit-yes d h = simp (le-leb 48 (48 + d) (omega arith), le-leb (48 + d) 57 (omeg
 digits-one : (below : Bool) (n d : ℕ) (t : List ℕ) → d < 10 → digits below n ((48 + d) ∷ t) ≡ digits below (n * 10 + d) t
 digits-one below n d t h = rw (digit-yes d h) (ap (λ (x : ℕ). digits below (n * 10 + x) t) (omega arith))
 
--- to show a thing of a number's digits, show it of one digit and of one digit more
-by-digits : (P : List ℕ → Type 0) (k n : ℕ) → (n < 10 → P ((48 + n) ∷ [])) → (10 ≤ n → P (decimalBy k (n / 10) ++ (48 + n % 10) ∷ [])) → P (decimalBy (suc k) n)
-by-digits P k n one more = if-ind P (ltb n 10) _ _ (λ e. one (ltb-true n 10 e)) (λ e. more (ltb-false n 10 e))
-
-digits-by : (below : Bool) (k n : ℕ) (t : List ℕ) → n < k → digits below 0 (decimalBy k n ++ t) ≡ digits below n t
-digits-by below zero n t h = absurd (omega arith)
-digits-by below (suc k) n t h =
-    by-digits (λ (l : List ℕ). digits below 0 (l ++ t) ≡ digits below n t) k n
-    (λ lt. digits-one below 0 n t lt ∙ ap (λ (x : ℕ). digits below x t) (omega arith))
-    (λ ge.
-    ap (digits below 0) (append-assoc (decimalBy k (n / 10)) ((48 + n % 10) ∷ []) t)
-    ∙ digits-by below k (n / 10) ((48 + n % 10) ∷ t) (omega arith)
-    ∙ digits-one below (n / 10) (n % 10) t (omega arith)
+digits-of-text : (below : Bool) (n : ℕ) (t : List ℕ) → digits below 0 (decimal n ++ t) ≡ digits below n t
+digits-of-text below n =
+    by-digits (λ (m : ℕ) (l : List ℕ). (t : List ℕ) → digits below 0 (l ++ t) ≡ digits below m t)
+    (λ m lt t. digits-one below 0 m t lt ∙ ap (λ (x : ℕ). digits below x t) (omega arith))
+    (λ m ge rest t.
+    ap (digits below 0) (append-assoc (decimal (m / 10)) ((48 + m % 10) ∷ []) t)
+    ∙ rest ((48 + m % 10) ∷ t)
+    ∙ digits-one below (m / 10) (m % 10) t (omega arith)
     ∙ ap (λ (x : ℕ). digits below x t) (omega arith))
+    n
 
 -- a first digit 1 to 9
 abbrev Leads : List ℕ → Type 0
 Leads [] = ⊥
 Leads (b ∷ s) = (49 ≤ b) × (b ≤ 57)
 
-leads-by : (k n : ℕ) (t : List ℕ) → n < k → 1 ≤ n → Leads (decimalBy k n ++ t)
-leads-by zero n t h p = absurd (omega arith)
-leads-by (suc k) n t h p =
-    by-digits (λ (l : List ℕ). Leads (l ++ t)) k n
-    (λ lt. (omega arith, omega arith))
-    (λ ge. rw (append-assoc (decimalBy k (n / 10)) ((48 + n % 10) ∷ []) t) (leads-by k (n / 10) ((48 + n % 10) ∷ t) (omega arith) (omega arith)))
+leads : (n : ℕ) (t : List ℕ) → 1 ≤ n → Leads (decimal n ++ t)
+leads n =
+    by-digits (λ (m : ℕ) (l : List ℕ). (t : List ℕ) → 1 ≤ m → Leads (l ++ t))
+    (λ m lt t h. (omega arith, omega arith))
+    (λ m ge rest t h. rw (append-assoc (decimal (m / 10)) ((48 + m % 10) ∷ []) t) (rest ((48 + m % 10) ∷ t) (omega arith)))
+    n
 
 positive-leads : (below : Bool) (s : List ℕ) → Leads s → positive below s ≡ digits below 0 s
 positive-leads below [] h = absurd h
@@ -64,12 +62,12 @@ head-leads (b ∷ s) (lo, hi) = simp (ne-eqb b 48 (λ e. omega arith), ne-eqb b 
 -- a number from 1 is read from its text
 positive-of-text : (below : Bool) (n : ℕ) (t : List ℕ) → 1 ≤ n → digitFrom 48 t ≡ false → positive below (decimal n ++ t) ≡ some (signed below n) t
 positive-of-text below n t p h =
-    positive-leads below (decimal n ++ t) (leads-by (suc n) n t (omega arith) p) ∙ digits-by below (suc n) n t (omega arith) ∙ digits-end below n t h
+    positive-leads below (decimal n ++ t) (leads n t p) ∙ digits-of-text below n t ∙ digits-end below n t h
 
 head-of-text : (v : ℤ) (t : List ℕ) → digitFrom 48 t ≡ false → numberHead (numberText v ++ t) ≡ some v t
-head-of-text (pos zero) t h = refl
+head-of-text (pos zero) t h = rw (decimal-digit 0 (omega arith))
 head-of-text (pos (suc n)) t h =
-    head-leads (decimal (suc n) ++ t) (leads-by (suc (suc n)) (suc n) t (omega arith) (omega arith)) ∙ positive-of-text false (suc n) t (omega arith) h
+    head-leads (decimal (suc n) ++ t) (leads (suc n) t (omega arith)) ∙ positive-of-text false (suc n) t (omega arith) h
 head-of-text (negsuc n) t h = positive-of-text true (suc n) t (omega arith) h
 
 head-of-four : (n : ℕ) (t : List ℕ) → n ≤ 9999 → fourHead (fourText (pos n) ++ t) ≡ some (pos n) t
@@ -140,23 +138,12 @@ fit-fields (key ∷ keys) (v ∷ vs) h = fit-field key (moreItems keys) v vs (mo
 
 -- Reading, then writing.
 
--- the bound on the number of digits does not matter where it is large enough
-by-any : (k j n : ℕ) → n < k → n < j → decimalBy k n ≡ decimalBy j n
-by-any zero j n h g = absurd (omega arith)
-by-any (suc k) zero n h g = absurd (omega arith)
-by-any (suc k) (suc j) n h g =
-    by-digits (λ (l : List ℕ). l ≡ decimalBy (suc j) n) k n
-    (λ lt. rw (lt-ltb n 10 lt))
-    (λ ge. rw (le-ltb n 10 ge) (ap (λ (l : List ℕ). l ++ (48 + n % 10) ∷ []) (by-any k j (n / 10) (omega arith) (omega arith))))
-
--- one digit more
-decimal-more : (a d : ℕ) → 1 ≤ a → d < 10 → decimal (a * 10 + d) ≡ decimal a ++ (48 + d) ∷ []
-decimal-more a d h lt =
+-- a digit behind a number's
+decimal-behind : (a d : ℕ) → 1 ≤ a → d < 10 → decimal (a * 10 + d) ≡ decimal a ++ (48 + d) ∷ []
+decimal-behind a d h lt =
     let q : (a * 10 + d) / 10 ≡ a = omega arith in
     let r : (a * 10 + d) % 10 ≡ d = omega arith in
-    by-digits (λ (l : List ℕ). l ≡ decimal a ++ (48 + d) ∷ []) (a * 10 + d) (a * 10 + d)
-    (λ small. absurd (omega arith))
-    (λ ge. rw (q, r) (ap (λ (l : List ℕ). l ++ (48 + d) ∷ []) (by-any (a * 10 + d) (suc a) a (omega arith) (omega arith))))
+    rw (q, r) at (decimal-more (a * 10 + d) (omega arith))
 
 -- a text is t, that of a number from 1, and the rest
 record Written (below : Bool) (t : List ℕ) (v : ℤ) (rest : List ℕ) : Type 0 where
@@ -175,7 +162,7 @@ digits-back below n (b ∷ s) v rest p h = go (isDigit b) refl h (λ e. digits-b
         let r = more h in
         let q = digit-bounds b e in
         let d : 48 + (b - 48) ≡ b = omega arith in
-        let l : decimal (n * 10 + (b - 48)) ≡ decimal n ++ b ∷ [] = rw d at (decimal-more n (b - 48) p (omega arith)) in
+        let l : decimal (n * 10 + (b - 48)) ≡ decimal n ++ b ∷ [] = rw d at (decimal-behind n (b - 48) p (omega arith)) in
         record { total = r .total; above = r .above; is = r .is; same = sym (append-assoc (decimal n) (b ∷ []) s) ∙ ap (λ (t : List ℕ). t ++ s) (sym l) ∙ r .same }
     go false e h more = record { total = n; above = p; is = cc; same = cc }
 
@@ -191,7 +178,7 @@ positive-back below (b ∷ s) v rest h = go (within 49 57 b) refl h
         let hi : b ≤ 57 = leb-true b 57 (q .1) in
         let r = digits-back below (b - 48) s v rest (omega arith) h in
         let d : 48 + (b - 48) ≡ b = omega arith in
-        let l : decimal (b - 48) ≡ b ∷ [] = rw (lt-ltb (b - 48) 10 (omega arith), d) in
+        let l : decimal (b - 48) ≡ b ∷ [] = rw d at (decimal-digit (b - 48) (omega arith)) in
         record { total = r .total; above = r .above; is = r .is; same = ap (λ (t : List ℕ). t ++ s) (sym l) ∙ r .same }
 
 minus-text : (n : ℕ) → 1 ≤ n → numberText (signed true n) ≡ 45 ∷ decimal n
@@ -208,7 +195,7 @@ text-of-head (b ∷ s) v rest h = go (eqb b 48) (eqb b 45) refl refl h
     go true u e f h =
         let ev : pos 0 ≡ v = cc in
         let es : s ≡ rest = cc in
-        rw (← ev, ← es) (ap (λ (x : ℕ). x ∷ s) (eqb-true b 48 e))
+        rw (← ev, ← es, decimal-digit 0 (omega arith)) (ap (λ (x : ℕ). x ∷ s) (eqb-true b 48 e))
     go false true e f h =
         let r = positive-back true s v rest h in
         rw (r .is, minus-text (r .total) (r .above), eqb-true b 45 f) (ap (λ (l : List ℕ). 45 ∷ l) (r .same))

@@ -4,6 +4,7 @@ use mathlib.Core.Path.{_≡_}
 use mathlib.Core.List.{List, [], _∷_, _++_}
 use lib.Dec.{eqb}
 use Rattle.laws.specs.Choice.{if_then_else_}
+use Rattle.decimal.specs.Bytes.{lf}
 use Rattle.event.specs.declared.Event.{Event}
 use Rattle.book.specs.Run.{World, run}
 use Rattle.book.specs.Claim.{Stands}
@@ -21,7 +22,7 @@ eventIn read.Other = []
 -- the events of the lines that an input completes, where text is the line that has begun
 unfoldable pub eventsIn : List ℕ → List ℕ → List Event
 eventsIn text [] = []
-eventsIn text (b ∷ s) = if eqb b 10 then eventIn (readLine text) ++ eventsIn [] s else eventsIn (text ++ b ∷ []) s
+eventsIn text (b ∷ s) = if eqb b lf then eventIn (readLine text) ++ eventsIn [] s else eventsIn (text ++ b ∷ []) s
 
 -- the line and the memories are those of a world
 pub record Holds (p : Progress) (w : World) : Type 0 where

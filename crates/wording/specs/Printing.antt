@@ -4,18 +4,18 @@ use mathlib.Core.Path.{_≡_}
 use mathlib.Core.List.{List, [], _∷_, _++_}
 use Prim.Native.String.{String}
 use lib.IntN.{pos}
+use Rattle.decimal.specs.Bytes.{bytes, lf}
 use Rattle.weight.specs.declared.Figure.the-variants.{Of}
 use Rattle.spread.specs.declared.Spread.the-variants.{None as NoSpread, Of as SpreadOf}
 use Rattle.event.specs.declared.reply.Reply.the-variants.{Refused, Done}
 use Rattle.sheet.specs.declared.sheet.Sheet.{Sheet}
-use Rattle.print.specs.Text.{plain, lf}
 use Rattle.print.specs.Reply.{replyText}
 use Rattle.print.specs.Sheet.{sheetText}
 
 -- each with its LF
 abbrev pub lines : List String → List ℕ
 lines [] = []
-lines (l ∷ ls) = plain l ++ (lf ++ lines ls)
+lines (l ∷ ls) = bytes l ++ lf ∷ lines ls
 
 -- what the example's one verdict leaves on the sheet of code 0
 abbrev pub printed : Sheet

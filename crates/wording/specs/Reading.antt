@@ -1,18 +1,12 @@
 -- 01, "Text lines": its example lines, and lines that are none of them.
-use Prim.Native.Nat.{ℕ}
-use Prim.Native.Char.{code}
-use Prim.Native.String.{String, [] as empty, _∷_ as _then_}
-use mathlib.Core.List.{List, [], _∷_}
+use Prim.Native.String.{String}
 use mathlib.Core.Path.{_≡_}
 use lib.IntN.{pos, negsuc}
+use Rattle.decimal.specs.Bytes.{bytes}
 use Rattle.text.specs.declared.Read.{Read}
 use Rattle.text.specs.declared.Read.the-variants as read
 use Rattle.event.specs.declared.Event.the-variants as event
 use Rattle.text.specs.Read.{readLine}
-
-abbrev pub bytes : String → List ℕ
-bytes empty = []
-bytes (c then s) = code c ∷ bytes s
 
 abbrev pub said : String → Read
 said s = readLine (bytes s)

@@ -1,6 +1,6 @@
 -- The printed example, by computation. Assumes nothing.
 use mathlib.Core.Path.{refl}
-use Rattle.print.specs.Text.{decimal}
+use Rattle.decimal.specs.Number.{decimal}
 use Rattle.print.specs.Reply.{doneText, refusedText}
 use Rattle.print.specs.Sheet.{sheetText}
 use Rattle.wording.proofs.lines_printed.Statement.{statement}

@@ -4,10 +4,10 @@ use Prim.Native.Nat.{_+_, _-_, _/_, _%_, _≤_, _<_}
 use mathlib.Core.Path.{_≡_, refl, sym, ap, _∙_}
 use native.Mathlib.Omega.{arith}
 use lib.ListN.{length, length-set}
-use Rattle.print.specs.Text.{decimal}
+use Rattle.decimal.specs.Number.{decimal}
 use Rattle.print.specs.Steps.{putAt}
 use Rattle.print.proofs.Put.{put-one, put-last}
-use Rattle.print.proofs.Decimal.{decimal-digit, decimal-more, length-digit, length-more}
+use Rattle.decimal.proofs.Digits.{decimal-digit, decimal-more, length-digit, length-more}
 use Rattle.print.proofs.buffer.put_decimal.Statement.{statement}
 use Rattle.print.proofs.buffer.put_decimal.Tie as tie
 

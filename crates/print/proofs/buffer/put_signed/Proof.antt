@@ -8,9 +8,9 @@ use lib.IntN.{pos, natAbs}
 use mir.Facts.{toZ-ofZ}
 use denote.Ref.{now}
 use Rattle.laws.proofs.Signed.{lit-le}
-use Rattle.print.specs.Text.{decimal, signed}
+use Rattle.decimal.specs.Number.{decimal, numberText}
 use Rattle.print.proofs.Put.{wrote-then, wrote-in, wrote-as, wrote-byte}
-use Rattle.print.proofs.Decimal.{signed-above, signed-below, size-at-most-19}
+use Rattle.decimal.proofs.Digits.{number-above, number-below, size-at-most-19}
 use borrow.Author.Needs.{needs}
 use Rattle.print.proofs.buffer.put_signed.Statement.{statement}
 use Rattle.print.proofs.buffer.put_signed.Tie as tie
@@ -42,7 +42,7 @@ returns : tie.Need-returns
 returns c =
     let s = c .before .before .before in
     let o = s .before .before .before .before in
-    let e : decimal (s .size .result) ≡ signed (o .args .v) = ap decimal (size-is s) ∙ sym (signed-above (o .args .v) (lit-le (o .fits .v) (pos 0) (c .before .before .before .before .before .if1 .taken))) in
+    let e : decimal (s .size .result) ≡ numberText (o .args .v) = ap decimal (size-is s) ∙ sym (number-above (o .args .v) (lit-le (o .fits .v) (pos 0) (c .before .before .before .before .before .if1 .taken))) in
     wrote-as e (wrote-in (omega (arith, digits-fit s)) (c .before .before .put-decimal .ensures))
 
 slice-write-out : tie.Need-slice-write-out
@@ -66,7 +66,7 @@ returns-2 : tie.Need-returns-2
 returns-2 c =
     let s = c .before .before .before in
     let o = s .before .before .before .before in
-    let e : 45 ∷ decimal (s .size2 .result) ≡ signed (o .args .v) = ap (λ (n : ℕ). 45 ∷ decimal n) (size-is-2 s) ∙ sym (signed-below (o .args .v) (lit-le (o .fits .v) (pos 0) (c .before .before .before .before .before .if1 .left))) in
+    let e : 45 ∷ decimal (s .size2 .result) ≡ numberText (o .args .v) = ap (λ (n : ℕ). 45 ∷ decimal n) (size-is-2 s) ∙ sym (number-below (o .args .v) (lit-le (o .fits .v) (pos 0) (c .before .before .before .before .before .if1 .left))) in
     let w = wrote-then (wrote-byte (now (o .args .out)) (o .args .at) 45 (omega arith)) (wrote-in (digits-fit-2 s) (c .before .before .put-decimal2 .ensures)) in
     wrote-as e w
 

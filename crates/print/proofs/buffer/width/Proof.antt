@@ -4,8 +4,8 @@ use Prim.Native.Nat.{_+_}
 use mathlib.Core.Path.{_≡_}
 use native.Mathlib.Omega.{arith}
 use lib.ListN.{length}
-use Rattle.print.specs.Text.{decimal}
-use Rattle.print.proofs.Decimal.{length-digit, length-more, at-most-20}
+use Rattle.decimal.specs.Number.{decimal}
+use Rattle.decimal.proofs.Digits.{length-digit, length-more, at-most-20}
 use Rattle.print.proofs.buffer.width.Statement.{statement}
 use Rattle.print.proofs.buffer.width.Tie as tie
 

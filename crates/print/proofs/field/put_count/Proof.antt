@@ -1,7 +1,7 @@
 -- `put_count`: the key, and the number behind it. Assumes nothing.
 use native.Mathlib.Omega.{arith}
 use Rattle.print.proofs.Put.{wrote-then, wrote-in}
-use Rattle.print.proofs.Decimal.{at-most-20}
+use Rattle.decimal.proofs.Digits.{at-most-20}
 use borrow.Author.Needs.{needs}
 use Rattle.print.proofs.field.put_count.Statement.{statement}
 use Rattle.print.proofs.field.put_count.Tie as tie

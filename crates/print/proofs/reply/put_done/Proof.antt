@@ -1,6 +1,7 @@
 -- `put_done`: two parts and LF, one behind the other. Assumes nothing.
 use native.Mathlib.Omega.{arith}
-use Rattle.print.specs.Text.{plain, lf}
+use Rattle.decimal.specs.Bytes.{bytes}
+use Rattle.print.specs.Text.{lineEnd}
 use Rattle.print.specs.Reply.{shown, did, doneText}
 use Rattle.print.proofs.Put.{wrote-then, wrote-in, wrote-as}
 use Rattle.print.proofs.Parts.{two-parts}
@@ -31,7 +32,7 @@ returns c =
     let first = second .before .before .before .before in
     let d = first .before .before .before .args .d in
     let w = wrote-then (first .put-shown .ensures) (wrote-then (second .put-did .ensures) (end .put .ensures)) in
-    wrote-in (omega arith) (wrote-as (two-parts (plain " ") (shown d) (did d) lf (omega arith)) w)
+    wrote-in (omega arith) (wrote-as (two-parts (bytes " ") (shown d) (did d) lineEnd (omega arith)) w)
 
 pub put-done-spec : {M : Type 1} → statement M
 put-done-spec =
