@@ -12,7 +12,7 @@ use lib.ListN.{length, take, drop, take-append-drop, drop-of-length-le, length-d
 use borrow.Rule.Slice.PartAt.{part-to-end}
 use borrow.Rule.Slice.PartMut.{putMid}
 use Rattle.laws.specs.Choice.{if_then_else_}
-use Rattle.print.specs.Written.{putText, written, lengthWritten}
+use Rattle.print.specs.Written.{putText, bufferAfter, lengthWritten}
 use Rattle.controller.specs.Answer.{Answer, putAt, endAt}
 
 -- the answer at n of a buffer xs that is then ys, and where it ends
@@ -30,7 +30,7 @@ past n a xs none h =
     }
 
 pub behind : (n : ℕ) (a : Answer) (xs ys : List ℕ) (r : ℕ)
-    → r ≡ lengthWritten (a .room) (a .text) (take (length xs - n) (drop n xs)) → ys ≡ written (a .room) (a .text) (take (length xs - n) (drop n xs))
+    → r ≡ lengthWritten (a .room) (a .text) (take (length xs - n) (drop n xs)) → ys ≡ bufferAfter (a .room) (a .text) (take (length xs - n) (drop n xs))
     → Put n a xs (n + r) (putMid n (length xs - n) xs ys)
 unfolding putAt endAt
 behind n a xs ys r e f =
@@ -48,7 +48,7 @@ within true text xs h =
 within false text xs h = omega arith
 
 pub fits : (n : ℕ) (a : Answer) (xs ys : List ℕ) (r : ℕ) → n ≤ length xs
-    → r ≡ lengthWritten (a .room) (a .text) (take (length xs - n) (drop n xs)) → ys ≡ written (a .room) (a .text) (take (length xs - n) (drop n xs))
+    → r ≡ lengthWritten (a .room) (a .text) (take (length xs - n) (drop n xs)) → ys ≡ bufferAfter (a .room) (a .text) (take (length xs - n) (drop n xs))
     → length ys ≡ length (take (length xs - n) (drop n xs)) → n + r ≤ length xs
 fits n a xs ys r h e f l =
     let part = take (length xs - n) (drop n xs) in

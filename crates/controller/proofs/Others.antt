@@ -32,7 +32,7 @@ use Rattle.settings.proofs.Settings as T
 use Rattle.text.specs.declared.Read.{Read}
 use Rattle.text.proofs.Read as D
 use Rattle.text.proofs.Read.Laws as D′
-use Rattle.controller.specs.Answer.{replied, putAt, endAt}
+use Rattle.controller.specs.Answer.{replyAnswer, putAt, endAt}
 use Rattle.controller.specs.Serve.{otherAnswer, servedStep}
 use Rattle.line.specs.declared.step.Step.{Step}
 use Rattle.line.proofs.step.Step as N
@@ -109,7 +109,7 @@ module _ {M : Type 1} (𝓤 : URA M) (H : Heap 𝓤) (A : Atoms 𝓤) (mem : Mem
     res = servedStep made us at
 
     abbrev zs-a : List ℕ
-    zs-a = putAt at (replied (made .reply)) us
+    zs-a = putAt at (replyAnswer (made .reply)) us
 
     pub asks-answered : ent 𝓤 (sep 𝓤 (sem 𝓤 H A Own-a) (A .lft κ q)) (Answered .pre to-answered)
     asks-answered =

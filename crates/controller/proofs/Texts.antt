@@ -39,7 +39,7 @@ use Rattle.text.proofs.Read.Laws as D′
 use Rattle.text.proofs.read_line as read-line
 use Rattle.controller.proofs.answer.put_report as put-report
 use Rattle.controller.proofs.answer.put_refused as put-refused
-use Rattle.controller.specs.Answer.{reported, refusedText, putAt, endAt}
+use Rattle.controller.specs.Answer.{reportAnswer, refusedAnswer, putAt, endAt}
 use Rattle.walks.proofs.Lending.{ref, result-is, result-rel}
 
 module _ {M : Type 1} (𝓤 : URA M) (H : Heap 𝓤) (A : Atoms 𝓤) (mem : Memory → SProp 𝓤) (run : Routine → Fun 𝓤) where
@@ -89,10 +89,10 @@ module _ {M : Type 1} (𝓤 : URA M) (H : Heap 𝓤) (A : Atoms 𝓤) (mem : Mem
       to-report = (((κ, tt), (q, tt), tt, (ref b o γ us, (at, (code, (rep, tt)))), (s ∷ [], (vint w64 at ∷ [], (vint w64 code ∷ [], (P′.lowered rep ∷ [], tt))))), tt)
 
       abbrev end-p : ℕ
-      end-p = endAt at (reported code rep) us
+      end-p = endAt at (reportAnswer code rep) us
 
       abbrev zs-p : List ℕ
-      zs-p = putAt at (reported code rep) us
+      zs-p = putAt at (reportAnswer code rep) us
 
       pub asks-report : ent 𝓤 (sep 𝓤 (sem 𝓤 H A Own) (A .lft κ q)) (PutReport .pre to-report)
       asks-report =
@@ -126,10 +126,10 @@ module _ {M : Type 1} (𝓤 : URA M) (H : Heap 𝓤) (A : Atoms 𝓤) (mem : Mem
       Own₁ = ShrSlice (named 1) κ₁ i64 .own (ref b₁ o₁ γ₁ ts) (s₁ ∷ [])
 
       abbrev end-f : ℕ
-      end-f = endAt at (refusedText count ts) us
+      end-f = endAt at (refusedAnswer count ts) us
 
       abbrev zs-f : List ℕ
-      zs-f = putAt at (refusedText count ts) us
+      zs-f = putAt at (refusedAnswer count ts) us
 
       pub asks-refused : ent 𝓤 (sep 𝓤 (sem 𝓤 H A Own) (sep 𝓤 (A .lft κ q) (sep 𝓤 (sem 𝓤 H A Own₁) (A .lft κ₁ q₁)))) (PutRefused .pre to-refused)
       asks-refused =

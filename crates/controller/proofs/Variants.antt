@@ -27,7 +27,7 @@ use Rattle.text.specs.declared.Read.{Read}
 use Rattle.text.specs.declared.Read.the-variants as Said
 use Rattle.text.proofs.Read as D
 use Rattle.text.proofs.Read.Laws as D′
-use Rattle.controller.specs.Answer.{Answer, replied, reported, refusedText}
+use Rattle.controller.specs.Answer.{Answer, replyAnswer, reportAnswer, refusedAnswer}
 use Rattle.controller.specs.Serve.{otherAnswer, answerTo, lineAfter, recordsAfter, talliesAfter}
 
 pub record Tagged (r : Read) (ks ns : List ℕ) : Type 0 where
@@ -40,10 +40,10 @@ pub record Tagged (r : Read) (ks ns : List ℕ) : Type 0 where
 -- ---- in `not_event`
 pub record AsReport (r : Read) (c : ℕ) : Type 0 where
   pub is : r ≡ Said.Report c
-  pub answer : (ss : List Settings) (ts : List ℤ) → reported c (reportOn ss ts c) ≡ otherAnswer ss ts r
+  pub answer : (ss : List Settings) (ts : List ℤ) → reportAnswer c (reportOn ss ts c) ≡ otherAnswer ss ts r
 
 pub record AsRefused (r : Read) : Type 0 where
-  pub answer : (ss : List Settings) (ts : List ℤ) → refusedText (length ss) ts ≡ otherAnswer ss ts r
+  pub answer : (ss : List Settings) (ts : List ℤ) → refusedAnswer (length ss) ts ≡ otherAnswer ss ts r
   pub tagged : Tagged r (0 ∷ 2 ∷ []) (1 ∷ [])
 
 pub report-or : (r : Read) → ((c : ℕ) × AsReport r c) ⊎ AsRefused r
@@ -73,16 +73,16 @@ pub record AsEvent (r : Read) (e : Event) : Type 0 where
   pub value : Val
   pub val : D′.lowered r ≡ live 0 (vcons value vnil)
   pub holds : Is D.the-row r (D′.lowered r ∷ []) → Is E.the-row e (value ∷ [])
-  pub after : (l : Line) (ss : List Settings) (ts : List ℤ) → After r l ss ts (stepOn l ss ts e .line) (settingsAfter l ss ts e) (stepOn l ss ts e .tallies) (replied (stepOn l ss ts e .reply))
+  pub after : (l : Line) (ss : List Settings) (ts : List ℤ) → After r l ss ts (stepOn l ss ts e .line) (settingsAfter l ss ts e) (stepOn l ss ts e .tallies) (replyAnswer (stepOn l ss ts e .reply))
 
 -- what `apply` says of the event
 pub after-step : {r : Read} {e : Event} → AsEvent r e → (l : Line) (ss xs : List Settings) (ts ws : List ℤ) (made : Step) → made ≡ stepIn (stepOn l ss ts e) → xs ≡ settingsAfter l ss ts e → ws ≡ stepOn l ss ts e .tallies
-    → After r l ss ts (made .line) xs ws (replied (made .reply))
+    → After r l ss ts (made .line) xs ws (replyAnswer (made .reply))
 after-step v l ss xs ts ws made d d₁ d₂ = record {
   line = ap (λ (y : Step). y .line) d ∙ v .after l ss ts .line;
   stored = d₁ ∙ v .after l ss ts .stored;
   tallied = d₂ ∙ v .after l ss ts .tallied;
-  answer = ap (λ (y : Step). replied (y .reply)) d ∙ v .after l ss ts .answer;
+  answer = ap (λ (y : Step). replyAnswer (y .reply)) d ∙ v .after l ss ts .answer;
 }
 
 pub record AsOther (r : Read) : Type 0 where

@@ -15,34 +15,34 @@ use Rattle.event.specs.declared.reply.Reply.{Reply}
 use Rattle.event.specs.declared.reply.Reply.the-variants.{Refused}
 use Rattle.print.specs.Reply.{replyText}
 use Rattle.print.specs.Sheet.{sheetText}
-use Rattle.print.specs.Written.{written, lengthWritten}
+use Rattle.print.specs.Written.{bufferAfter, lengthWritten}
 
 -- a text to print, and the least room that it is written to
 pub record Answer : Type 0 where
   pub room : ℕ
   pub text : List ℕ
 
-abbrev pub replied : Reply → Answer
-replied r = record { room = 256; text = replyText r }
+abbrev pub replyAnswer : Reply → Answer
+replyAnswer r = record { room = 256; text = replyText r }
 
-abbrev pub printed : ℕ → Sheet → Answer
-printed code s = record { room = 1024; text = sheetText code s }
+abbrev pub sheetAnswer : ℕ → Sheet → Answer
+sheetAnswer code s = record { room = 1024; text = sheetText code s }
 
 -- a report's refusal, or the code's sheet
-abbrev pub reported : ℕ → Report → Answer
-reported code (report.Refused number) = replied (Refused number 0)
-reported code (report.Printed s) = printed code s
+abbrev pub reportAnswer : ℕ → Report → Answer
+reportAnswer code (report.Refused number) = replyAnswer (Refused number 0)
+reportAnswer code (report.Printed s) = sheetAnswer code s
 
 -- "A line that reads as no event and no report is refused 1"; "Every call checks both lengths" (8) before that
 abbrev pub textRefusal : ℕ → List ℤ → ℕ
 textRefusal count ts = if eqb count settingsLength && eqb (length ts) talliesLength then 1 else 8
 
-abbrev pub refusedText : ℕ → List ℤ → Answer
-refusedText count ts = replied (Refused (textRefusal count ts) 0)
+abbrev pub refusedAnswer : ℕ → List ℤ → Answer
+refusedAnswer count ts = replyAnswer (Refused (textRefusal count ts) 0)
 
 -- the answer behind the first bytes of a buffer: they stay, and it is written to the rest
 unfoldable pub putAt : ℕ → Answer → List ℕ → List ℕ
-putAt at a out = take at out ++ written (a .room) (a .text) (drop at out)
+putAt at a out = take at out ++ bufferAfter (a .room) (a .text) (drop at out)
 
 -- where it ends
 unfoldable pub endAt : ℕ → Answer → List ℕ → ℕ

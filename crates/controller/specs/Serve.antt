@@ -10,17 +10,17 @@ use Rattle.line.specs.declared.line.Line.{Line}
 use Rattle.line.specs.declared.step.Step.{Step}
 use Rattle.text.specs.declared.Read.{Read}
 use Rattle.text.specs.declared.Read.the-variants as read
-use Rattle.controller.specs.Answer.{Answer, replied, reported, refusedText, putAt, endAt}
+use Rattle.controller.specs.Answer.{Answer, replyAnswer, reportAnswer, refusedAnswer, putAt, endAt}
 use Rattle.controller.specs.declared.Served.{Served}
 
 -- the answer to what is no event: a report's, or the text's refusal
 unfoldable pub otherAnswer : List Settings → List ℤ → Read → Answer
-otherAnswer ss ts (read.Event e) = refusedText (length ss) ts
-otherAnswer ss ts (read.Report code) = reported code (reportOn ss ts code)
-otherAnswer ss ts read.Other = refusedText (length ss) ts
+otherAnswer ss ts (read.Event e) = refusedAnswer (length ss) ts
+otherAnswer ss ts (read.Report code) = reportAnswer code (reportOn ss ts code)
+otherAnswer ss ts read.Other = refusedAnswer (length ss) ts
 
 unfoldable pub answerTo : Line → List Settings → List ℤ → Read → Answer
-answerTo l ss ts (read.Event e) = replied (stepOn l ss ts e .reply)
+answerTo l ss ts (read.Event e) = replyAnswer (stepOn l ss ts e .reply)
 answerTo l ss ts (read.Report code) = otherAnswer ss ts (read.Report code)
 answerTo l ss ts read.Other = otherAnswer ss ts read.Other
 
@@ -42,7 +42,7 @@ talliesAfter l ss ts read.Other = ts
 
 -- the answer to a step that was made
 abbrev pub servedStep : Step → List ℕ → ℕ → Served
-servedStep step out at = record { line = step .line; at = endAt at (replied (step .reply)) out }
+servedStep step out at = record { line = step .line; at = endAt at (replyAnswer (step .reply)) out }
 
 -- the answer stands behind the first bytes of the output
 abbrev pub servedBy : Line → List Settings → List ℤ → Read → List ℕ → ℕ → Served

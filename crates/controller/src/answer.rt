@@ -1,14 +1,14 @@
 // Answers in a lent buffer, one behind the other: each goes in from `at` on, and says where it ends. Where there is too little
 // room nothing is written.
 ghost use mathlib.Core.Path.{_≡_};
-ghost use Rattle.controller.specs.Answer.{replied, printed, reported, textRefusal, refusedText, putAt, endAt};
+ghost use Rattle.controller.specs.Answer.{replyAnswer, sheetAnswer, reportAnswer, textRefusal, refusedAnswer, putAt, endAt};
 use event::Reply;
 use sheet::Report;
 use sheet::Sheet;
 
 pub(crate) fn put_reply(out: &mut [u8], at: usize, r: Reply) -> usize
-    ensures end { λ n. ⌜ n ≡ endAt at (replied r) (now (out .entry)) ⌝ }
-    ensures output { λ n. ⌜ now (out .exit) ≡ putAt at (replied r) (now (out .entry)) ⌝ }
+    ensures end { λ n. ⌜ n ≡ endAt at (replyAnswer r) (now (out .entry)) ⌝ }
+    ensures output { λ n. ⌜ now (out .exit) ≡ putAt at (replyAnswer r) (now (out .entry)) ⌝ }
 {
     if out.len() < at {
         return at;
@@ -18,8 +18,8 @@ pub(crate) fn put_reply(out: &mut [u8], at: usize, r: Reply) -> usize
 }
 
 fn put_sheet(out: &mut [u8], at: usize, code: u64, s: Sheet) -> usize
-    ensures end { λ n. ⌜ n ≡ endAt at (printed code s) (now (out .entry)) ⌝ }
-    ensures output { λ n. ⌜ now (out .exit) ≡ putAt at (printed code s) (now (out .entry)) ⌝ }
+    ensures end { λ n. ⌜ n ≡ endAt at (sheetAnswer code s) (now (out .entry)) ⌝ }
+    ensures output { λ n. ⌜ now (out .exit) ≡ putAt at (sheetAnswer code s) (now (out .entry)) ⌝ }
 {
     if out.len() < at {
         return at;
@@ -29,8 +29,8 @@ fn put_sheet(out: &mut [u8], at: usize, code: u64, s: Sheet) -> usize
 }
 
 pub(crate) fn put_report(out: &mut [u8], at: usize, code: u64, r: Report) -> usize
-    ensures end { λ n. ⌜ n ≡ endAt at (reported code r) (now (out .entry)) ⌝ }
-    ensures output { λ n. ⌜ now (out .exit) ≡ putAt at (reported code r) (now (out .entry)) ⌝ }
+    ensures end { λ n. ⌜ n ≡ endAt at (reportAnswer code r) (now (out .entry)) ⌝ }
+    ensures output { λ n. ⌜ now (out .exit) ≡ putAt at (reportAnswer code r) (now (out .entry)) ⌝ }
 {
     match r {
         Report::Refused(number) => {
@@ -55,8 +55,8 @@ fn refusal_of_text(count: usize, tallies: &[i64]) -> u64
 
 // The refusal of text that is no event and no report.
 pub(crate) fn put_refused(out: &mut [u8], at: usize, count: usize, tallies: &[i64]) -> usize
-    ensures end { λ n. ⌜ n ≡ endAt at (refusedText count (now (tallies .entry))) (now (out .entry)) ⌝ }
-    ensures output { λ n. ⌜ now (out .exit) ≡ putAt at (refusedText count (now (tallies .entry))) (now (out .entry)) ⌝ }
+    ensures end { λ n. ⌜ n ≡ endAt at (refusedAnswer count (now (tallies .entry))) (now (out .entry)) ⌝ }
+    ensures output { λ n. ⌜ now (out .exit) ≡ putAt at (refusedAnswer count (now (tallies .entry))) (now (out .entry)) ⌝ }
 {
     let reply = Reply::Refused {
         number: refusal_of_text(count, tallies),

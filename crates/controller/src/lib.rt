@@ -27,7 +27,7 @@
 //
 // No call has a condition that its caller must see to.
 ghost use mathlib.Core.Path.{_≡_};
-ghost use Rattle.controller.specs.Answer.{replied, putAt, endAt};
+ghost use Rattle.controller.specs.Answer.{replyAnswer, putAt, endAt};
 ghost use Rattle.controller.specs.Serve.{otherAnswer, servedStep, servedBy, recordsAfter, talliesAfter, outputAfter};
 ghost use Rattle.text.specs.Read.{readLine};
 
@@ -70,7 +70,7 @@ fn not_event(records: &[Settings], tallies: &[i64], said: Read, out: &mut [u8], 
 // A step's reply is written.
 fn answered(step: Step, out: &mut [u8], at: usize) -> Served
     ensures answer { λ r. ⌜ r ≡ servedStep step (now (out .entry)) at ⌝ }
-    ensures output { λ r. ⌜ now (out .exit) ≡ putAt at (replied (step .reply)) (now (out .entry)) ⌝ }
+    ensures output { λ r. ⌜ now (out .exit) ≡ putAt at (replyAnswer (step .reply)) (now (out .entry)) ⌝ }
 {
     let reply = step.reply;
     let line = step.line;

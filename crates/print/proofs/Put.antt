@@ -7,56 +7,56 @@ use native.Mathlib.Numerals.{add-one}
 use lib.ListN.{length, take, drop, set, length-append, length-drop}
 use lib.Seq.{length-take-le, take-length, take-at, drop-at, drop-drop, set-split, take-set-le, paste}
 use borrow.Author.Tests.{le-leb, lt-leb}
-use Rattle.print.specs.Written.{written, lengthWritten}
-use Rattle.print.specs.Steps.{putAt, Wrote}
+use Rattle.print.specs.Written.{bufferAfter, lengthWritten}
+use Rattle.print.specs.Steps.{withTextAt, Wrote}
 
 module _ (b : List ℕ) (at : ℕ) (s : List ℕ) (h : at + length s ≤ length b) where
   head-length : length (take at b ++ s) ≡ at + length s
   head-length = rw (length-append (take at b) s, length-take-le at b (omega arith))
 
-  pub put-length : length (putAt b at s) ≡ length b
-  unfolding putAt
+  pub put-length : length (withTextAt b at s) ≡ length b
+  unfolding withTextAt
   put-length = simp (length-append, length-take-le at b (omega arith), length-drop) (omega arith)
 
-  parted : putAt b at s ≡ (take at b ++ s) ++ drop (at + length s) b
-  unfolding putAt
+  parted : withTextAt b at s ≡ (take at b ++ s) ++ drop (at + length s) b
+  unfolding withTextAt
   parted = sym (append-assoc (take at b) s (drop (at + length s) b))
 
-  front : take (at + length s) (putAt b at s) ≡ take at b ++ s
+  front : take (at + length s) (withTextAt b at s) ≡ take at b ++ s
   front = rw parted (take-at (take at b ++ s) (drop (at + length s) b) (at + length s) head-length)
 
-  behind : (n : ℕ) → drop (at + length s + n) (putAt b at s) ≡ drop (at + length s + n) b
+  behind : (n : ℕ) → drop (at + length s + n) (withTextAt b at s) ≡ drop (at + length s + n) b
   behind n =
-      sym (drop-drop n (at + length s) (putAt b at s))
+      sym (drop-drop n (at + length s) (withTextAt b at s))
       ∙ ap (drop n) (rw parted (drop-at (take at b ++ s) (drop (at + length s) b) (at + length s) head-length))
       ∙ drop-drop n (at + length s) b
 
   -- a text behind a text
-  pub put-then : (t : List ℕ) → putAt (putAt b at s) (at + length s) t ≡ putAt b at (s ++ t)
-  unfolding putAt
+  pub put-then : (t : List ℕ) → withTextAt (withTextAt b at s) (at + length s) t ≡ withTextAt b at (s ++ t)
+  unfolding withTextAt
   put-then t =
       let e : at + length s + length t ≡ at + length (s ++ t) = rw length-append (omega arith) in
       rw (front, behind (length t), e) (simp append-assoc)
 
-pub put-one : (b : List ℕ) (i x : ℕ) → i < length b → set b i x ≡ putAt b i (x ∷ [])
-unfolding putAt
+pub put-one : (b : List ℕ) (i x : ℕ) → i < length b → set b i x ≡ withTextAt b i (x ∷ [])
+unfolding withTextAt
 put-one b i x h = set-split b i x h ∙ ap (λ (k : ℕ). take i b ++ x ∷ drop k b) (sym (add-one i))
 
 -- a byte behind where a text will be, before the text
-pub put-last : (b : List ℕ) (at : ℕ) (s : List ℕ) (x : ℕ) → at + length s < length b → putAt (set b (at + length s) x) at s ≡ putAt b at (s ++ (x ∷ []))
-unfolding putAt
+pub put-last : (b : List ℕ) (at : ℕ) (s : List ℕ) (x : ℕ) → at + length s < length b → withTextAt (set b (at + length s) x) at s ≡ withTextAt b at (s ++ (x ∷ []))
+unfolding withTextAt
 put-last b at s x h =
     let i = at + length s in
     let e : suc i ≡ at + length (s ++ (x ∷ [])) = rw length-append (omega arith) in
     let d : drop i (set b i x) ≡ x ∷ drop (suc i) b = rw (set-split b i x h) (drop-at (take i b) (x ∷ drop (suc i) b) i (length-take-le i b (omega arith))) in
     rw (take-set-le at b i x (omega arith), d, e) (simp append-assoc)
 
-pub put-pasted : (b : List ℕ) (at : ℕ) (s : List ℕ) → paste b at s (length s) ≡ putAt b at s
-unfolding putAt
+pub put-pasted : (b : List ℕ) (at : ℕ) (s : List ℕ) → paste b at s (length s) ≡ withTextAt b at s
+unfolding withTextAt
 put-pasted b at s = rw (take-length s, append-assoc (take at b) s (drop (at + length s) b))
 
-pub put-front : (b s : List ℕ) → putAt b 0 s ≡ s ++ drop (length s) b
-unfolding putAt
+pub put-front : (b s : List ℕ) → withTextAt b 0 s ≡ s ++ drop (length s) b
+unfolding withTextAt
 put-front b s = let e : 0 + length s ≡ length s = omega arith in rw e
 
 pub wrote-byte : (b : List ℕ) (at x : ℕ) → at < length b → Wrote b at (x ∷ []) 1 (set b at x) (at + 1)
@@ -85,8 +85,8 @@ pub wrote-end : {b b′ : List ℕ} {at r m : ℕ} {s : List ℕ} → Wrote b at
 wrote-end {b} {b′} {at} {r} {m} {s} w = wrote-as (sym (append-nil s)) w
 
 -- at the front of a buffer that is long enough, and of one that is not
-pub wrote-front : {b b′ : List ℕ} {r m : ℕ} {s : List ℕ} (room : ℕ) → room ≤ length b → Wrote b 0 s m b′ r → (r ≡ lengthWritten room s b) × (b′ ≡ written room s b)
+pub wrote-front : {b b′ : List ℕ} {r m : ℕ} {s : List ℕ} (room : ℕ) → room ≤ length b → Wrote b 0 s m b′ r → (r ≡ lengthWritten room s b) × (b′ ≡ bufferAfter room s b)
 wrote-front {b} {b′} {r} {m} {s} room h w = simp (le-leb room (length b) h) (omega (arith, w .place), w .bytes ∙ put-front b s)
 
-pub kept-front : (room : ℕ) (s b : List ℕ) → length b < room → (0 ≡ lengthWritten room s b) × (b ≡ written room s b)
+pub kept-front : (room : ℕ) (s b : List ℕ) → length b < room → (0 ≡ lengthWritten room s b) × (b ≡ bufferAfter room s b)
 kept-front room s b h = simp (lt-leb room (length b) h) (refl, refl)

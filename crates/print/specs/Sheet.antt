@@ -32,8 +32,8 @@ grades s =
 abbrev pub faults : Sheet → List (List ℕ)
 faults s = field "foreign" (decimal (s .foreign)) ∷ field "double" (decimal (s .double)) ∷ field "crash" (decimal (s .crash)) ∷ []
 
-abbrev pub weights : Sheet → List (List ℕ)
-weights s =
+abbrev pub weightFigures : Sheet → List (List ℕ)
+weightFigures s =
     field "max" (figureText (s .max))
     ∷ field "min" (figureText (s .min))
     ∷ field "sum" (numberText (s .sum))
@@ -45,4 +45,4 @@ abbrev pub spreads : Sheet → List (List ℕ)
 spreads s = field "sd" (spreadText (s .sd)) ∷ field "sdp" (spreadText (s .sdp)) ∷ []
 
 unfoldable pub sheetText : ℕ → Sheet → List ℕ
-sheetText code s = joined lineEnd (totals code s ++ (grades s ++ (faults s ++ (weights s ++ spreads s)))) ++ lineEnd
+sheetText code s = joined lineEnd (totals code s ++ (grades s ++ (faults s ++ (weightFigures s ++ spreads s)))) ++ lineEnd

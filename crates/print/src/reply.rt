@@ -5,7 +5,7 @@ ghost use lib.ListN.{length};
 ghost use Rattle.decimal.specs.Bytes.{bytes};
 ghost use Rattle.print.specs.Text.{ahead, joined};
 ghost use Rattle.print.specs.Reply.{errorText, shown, did, doneText, refusedText, replyText};
-ghost use Rattle.print.specs.Written.{written, lengthWritten};
+ghost use Rattle.print.specs.Written.{bufferAfter, lengthWritten};
 ghost use Rattle.print.specs.Steps.{Wrote, Field};
 use crate::buffer::put;
 use crate::field::put_count;
@@ -18,7 +18,7 @@ use event::Reply;
 // left as it is, and the answer is 0.
 pub fn reply_line(out: &mut [u8], r: Reply) -> usize
     ensures { λ n. ⌜ n ≡ lengthWritten 256 (replyText r) (now (out .entry)) ⌝ }
-    ensures { λ _. ⌜ now (out .exit) ≡ written 256 (replyText r) (now (out .entry)) ⌝ }
+    ensures { λ _. ⌜ now (out .exit) ≡ bufferAfter 256 (replyText r) (now (out .entry)) ⌝ }
 {
     if out.len() < 256 {
         return 0;

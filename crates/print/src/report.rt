@@ -3,8 +3,8 @@ ghost use mathlib.Core.Path.{_≡_};
 ghost use Prim.Native.Nat.{_+_, _≤_};
 ghost use lib.ListN.{length};
 ghost use Rattle.print.specs.Text.{lineEnd, ahead, joined};
-ghost use Rattle.print.specs.Sheet.{totals, grades, faults, weights, spreads, sheetText};
-ghost use Rattle.print.specs.Written.{written, lengthWritten};
+ghost use Rattle.print.specs.Sheet.{totals, grades, faults, weightFigures, spreads, sheetText};
+ghost use Rattle.print.specs.Written.{bufferAfter, lengthWritten};
 ghost use Rattle.print.specs.Steps.{Wrote};
 use crate::buffer::put;
 use crate::field::put_count;
@@ -17,7 +17,7 @@ use sheet::Sheet;
 // fewer than 1024 is left as it is, and the answer is 0.
 pub fn sheet_lines(out: &mut [u8], code: u64, s: Sheet) -> usize
     ensures { λ n. ⌜ n ≡ lengthWritten 1024 (sheetText code s) (now (out .entry)) ⌝ }
-    ensures { λ _. ⌜ now (out .exit) ≡ written 1024 (sheetText code s) (now (out .entry)) ⌝ }
+    ensures { λ _. ⌜ now (out .exit) ≡ bufferAfter 1024 (sheetText code s) (now (out .entry)) ⌝ }
 {
     if out.len() < 1024 {
         return 0;
@@ -61,7 +61,7 @@ fn put_faults(out: &mut [u8], at: usize, s: Sheet) -> usize
 
 fn put_weights(out: &mut [u8], at: usize, s: Sheet) -> usize
     requires { ⌜ at + 132 ≤ length (now out) ⌝ }
-    ensures { λ r. ⌜ Wrote (now (out .entry)) at (ahead lineEnd (weights s)) 132 (now (out .exit)) r ⌝ }
+    ensures { λ r. ⌜ Wrote (now (out .entry)) at (ahead lineEnd (weightFigures s)) 132 (now (out .exit)) r ⌝ }
 {
     let max = s.max;
     let min = s.min;

@@ -13,7 +13,7 @@ use borrow.Author.Tests.{leb-true, leb-false, eq-eqb, not-true}
 use Rattle.laws.specs.Choice.{if_then_else_}
 use Rattle.laws.proofs.Tests.{both, by-cases}
 use Rattle.text.specs.Number.{Head, none, some, numberHead, fourHead}
-use Rattle.text.specs.Form.{Item, byte, number, four, Values, other, values, also, andRest, lineValues, numbers}
+use Rattle.text.specs.Form.{Item, byte, number, four, Values, other, values, also, andRest, lineValues, valueCount}
 use Rattle.text.specs.Read.{hold, held}
 use Rattle.text.specs.Views.{byteIs, heldHead, found, isLiteral, itemOf, itemsOf, valueHead}
 use Rattle.text.specs.declared.number.Found.{Found}
@@ -47,12 +47,12 @@ literal-item c h =
     rw (not-true (eqb c 35) (b .0), not-true (eqb c 36) (b .1))
 
 value-item : (c : ℕ) (form : List Item) (s : List ℕ) → isLiteral c ≡ false
-    → (lineValues (itemOf c ∷ form) s ≡ andRest (lineValues form) (valueHead c s)) × (numbers (itemOf c ∷ form) ≡ suc (numbers form))
+    → (lineValues (itemOf c ∷ form) s ≡ andRest (lineValues form) (valueHead c s)) × (valueCount (itemOf c ∷ form) ≡ suc (valueCount form))
 value-item c form s h = go (eqb c 35) (eqb c 36) h
   where
     go : (t u : Bool) → not t && not u ≡ false
         → (lineValues ((if t then number else (if u then four else byte c)) ∷ form) s ≡ andRest (lineValues form) (if t then numberHead s else fourHead s))
-        × (numbers ((if t then number else (if u then four else byte c)) ∷ form) ≡ suc (numbers form))
+        × (valueCount ((if t then number else (if u then four else byte c)) ∷ form) ≡ suc (valueCount form))
     go true u h = (refl, refl)
     go false true h = (refl, refl)
     go false false h = never (sym h)
@@ -64,7 +64,7 @@ byte-other c form (b ∷ s) h = rw h
 -- before item k: the values so far and those of the rest are the line's, and there is room for those of the rest
 pub record State (line form : List ℕ) (vs : List ℤ) (count at k : ℕ) : Type 0 where
   pub inside : k ≤ length form
-  pub left : count + numbers (itemsOf (drop k form)) ≡ numbers (itemsOf form)
+  pub left : count + valueCount (itemsOf (drop k form)) ≡ valueCount (itemsOf form)
   pub room : length vs ≡ 11
   pub same : prepend (take count vs) (held (lineValues (itemsOf (drop k form)) (drop at line))) ≡ held (lineValues (itemsOf form) line)
 
@@ -101,14 +101,14 @@ module _ {line form : List ℕ} {vs : List ℤ} {count at k : ℕ} (st : State l
       → other ≡ held (lineValues (itemsOf form) line)
   value-missing l e = one-value l Nothing e
 
-  pub value-room : isLiteral (getD form k 0) ≡ false → count + suc (numbers (itemsOf (drop (k + 1) form))) ≡ numbers (itemsOf form)
+  pub value-room : isLiteral (getD form k 0) ≡ false → count + suc (valueCount (itemsOf (drop (k + 1) form))) ≡ valueCount (itemsOf form)
   value-room l =
       let n = value-item (getD form k 0) (itemsOf (drop (k + 1) form)) [] l .1 in
-      let m : count + numbers (itemOf (getD form k 0) ∷ itemsOf (drop (k + 1) form)) ≡ numbers (itemsOf form) = rw (cut form k h) at (st .left) in
+      let m : count + valueCount (itemOf (getD form k 0) ∷ itemsOf (drop (k + 1) form)) ≡ valueCount (itemsOf form) = rw (cut form k h) at (st .left) in
       omega arith
 
   pub value-found : isLiteral (getD form k 0) ≡ false → (v : ℤ) (next : ℕ) → found line (Value v next) ≡ heldHead (valueHead (getD form k 0) (drop at line))
-      → numbers (itemsOf form) ≤ 11 → State line form (set vs count v) (count + 1) next (k + 1)
+      → valueCount (itemsOf form) ≤ 11 → State line form (set vs count v) (count + 1) next (k + 1)
   value-found l v next e few =
       let r = value-room l in
       let room : length vs ≡ 11 = st .room in
@@ -122,10 +122,10 @@ module _ {line form : List ℕ} {vs : List ℤ} {count at k : ℕ} (st : State l
 
 -- behind the last item the line must end
 module _ {line form : List ℕ} {vs : List ℤ} {count at k : ℕ} (st : State line form vs count at k) (h : length form ≤ k) where
-  pub ended : (if leb (length line) at then values (take (numbers (itemsOf form)) vs) else other) ≡ held (lineValues (itemsOf form) line)
+  pub ended : (if leb (length line) at then values (take (valueCount (itemsOf form)) vs) else other) ≡ held (lineValues (itemsOf form) line)
   ended =
-      let n : count + 0 ≡ numbers (itemsOf form) = rw (drop-of-length-le form h) at (st .left) in
-      let m : numbers (itemsOf form) ≡ count = omega arith in
+      let n : count + 0 ≡ valueCount (itemsOf form) = rw (drop-of-length-le form h) at (st .left) in
+      let m : valueCount (itemsOf form) ≡ count = omega arith in
       by-cases (leb (length line) at)
       (λ e. rw (e, m) (ap values (sym (append-nil (take count vs)))
       ∙ (rw (drop-of-length-le form h, drop-of-length-le line (leb-true (length line) at e)) at (st .same))))

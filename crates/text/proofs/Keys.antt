@@ -12,7 +12,7 @@ use borrow.Author.Tests.{eqb-true}
 use Rattle.laws.proofs.Tests.{both, by-cases}
 use Rattle.text.specs.Number.{Head, none, some, numberHead}
 use Rattle.text.specs.Form.{Item, byte, number, Values, other, values, also, andRest, lineValues}
-use Rattle.text.specs.Read.{limit, hold, held, unsigned, Kind, sample, says, firstOf}
+use Rattle.text.specs.Read.{limit, hold, held, unsignedOf, Kind, sample, says, firstOf}
 use Rattle.text.specs.Views.{byteIs, heldHead, isPrefix, isLevel, sensorKey, emergencyKey, safetyKey, foreignKey, grossKey, headIs, middleIs}
 use mathlib.Core.Logic.{_⊎_, ⊎-elim}
 use Rattle.event.specs.declared.Event.{Event}
@@ -191,7 +191,7 @@ pub from-place : (line : List ℕ) (at : ℕ) → take (length line - at) (drop 
 from-place line at = take-all (length line - at) (drop at line) (simp length-drop (omega arith))
 
 pub quick-says : (line rest : List ℕ) (v g : ℤ) (sensor emergency safety foreign : ℕ)
-    → sensor ≡ getD line 7 0 - 48 → emergency ≡ getD line 19 0 - 48 → safety ≡ unsigned v → foreign ≡ getD rest 9 0 - 48
+    → sensor ≡ getD line 7 0 - 48 → emergency ≡ getD line 19 0 - 48 → safety ≡ unsignedOf v → foreign ≡ getD rest 9 0 - 48
     → held (lineValues (sample .form) line) ≡ values (pos (getD line 7 0 - 48) ∷ pos (getD line 19 0 - 48) ∷ v ∷ pos (getD rest 9 0 - 48) ∷ g ∷ [])
     → read.Event (event.Sample (record { gross = g; sensor = sensor; emergency = emergency; safety = safety; foreign = foreign })) ≡ firstOf (sample ∷ []) line
 quick-says line rest v g sensor emergency safety foreign a b c d e =

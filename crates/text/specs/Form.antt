@@ -16,18 +16,18 @@ pub data Item : Type 0 where
   four : Item
 
 -- a word as it stands
-abbrev pub plain : String → List Item
-plain empty = []
-plain (c then s) = byte (code c) ∷ plain s
+abbrev pub wordItems : String → List Item
+wordItems empty = []
+wordItems (c then s) = byte (code c) ∷ wordItems s
 
 -- "key=value"
 abbrev pub fieldItems : String → List Item
-fieldItems key = plain key ++ (plain "=" ++ number ∷ [])
+fieldItems key = wordItems key ++ (wordItems "=" ++ number ∷ [])
 
 -- the fields behind the first, "one space between"
 abbrev pub moreItems : List String → List Item
 moreItems [] = []
-moreItems (key ∷ keys) = plain " " ++ (fieldItems key ++ moreItems keys)
+moreItems (key ∷ keys) = wordItems " " ++ (fieldItems key ++ moreItems keys)
 
 -- the form of a line with these fields
 abbrev pub fieldsForm : List String → List Item
@@ -66,8 +66,8 @@ lineText (four ∷ form) [] = []
 lineText (four ∷ form) (v ∷ vs) = fourText v ++ lineText form vs
 
 -- how many values a form has
-abbrev pub numbers : List Item → ℕ
-numbers [] = 0
-numbers (byte c ∷ form) = numbers form
-numbers (number ∷ form) = suc (numbers form)
-numbers (four ∷ form) = suc (numbers form)
+abbrev pub valueCount : List Item → ℕ
+valueCount [] = 0
+valueCount (byte c ∷ form) = valueCount form
+valueCount (number ∷ form) = suc (valueCount form)
+valueCount (four ∷ form) = suc (valueCount form)

@@ -10,7 +10,7 @@ use Rattle.event.specs.declared.Event.{Event}
 use Rattle.event.specs.declared.Event.the-variants as event
 use Rattle.text.specs.declared.Read.{Read}
 use Rattle.text.specs.declared.Read.the-variants as read
-use Rattle.text.specs.Form.{Item, four, plain, fieldsForm, Values, other, values, lineValues}
+use Rattle.text.specs.Form.{Item, four, wordItems, fieldsForm, Values, other, values, lineValues}
 
 -- "A well-formed number too small or too large, of any number of digits, is refused 2": no field's range reaches
 -- this limit, so a number held at it is out of range as the number was.
@@ -27,16 +27,16 @@ held other = other
 held (values vs) = values (map hold vs)
 
 -- a value for a field that is never negative: a negative one, too small, is out of range as the limit is
-abbrev pub unsigned : ℤ → ℕ
-unsigned (pos n) = n
-unsigned (negsuc n) = limit
+abbrev pub unsignedOf : ℤ → ℕ
+unsignedOf (pos n) = n
+unsignedOf (negsuc n) = limit
 
 -- value i of a line, for a field with a sign and for one without
 abbrev pub at : List ℤ → ℕ → ℤ
 at vs i = getD vs i (pos 0)
 
 abbrev pub sizeAt : List ℤ → ℕ → ℕ
-sizeAt vs i = unsigned (at vs i)
+sizeAt vs i = unsignedOf (at vs i)
 
 -- a form, and what the values of a line of that form say
 pub record Kind : Type 0 where
@@ -92,11 +92,11 @@ abbrev pub report : Kind
 report = record { form = fieldsForm ("report" ∷ []); means = λ v. read.Report (sizeAt v 0) }
 
 abbrev pub command : String → Event → Kind
-command word e = record { form = plain word; means = λ v. read.Event e }
+command word e = record { form = wordItems word; means = λ v. read.Event e }
 
 -- "with four digits"
 abbrev pub coded : String → (ℕ → Event) → Kind
-coded word e = record { form = plain word ++ four ∷ []; means = λ v. read.Event (e (sizeAt v 0)) }
+coded word e = record { form = wordItems word ++ four ∷ []; means = λ v. read.Event (e (sizeAt v 0)) }
 
 -- "CCOD and CDTL with four digits (recall, clear code)"
 abbrev pub codedCommands : List Kind

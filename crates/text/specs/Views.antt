@@ -7,7 +7,7 @@ use lib.Dec.{eqb}
 use lib.IntN.{pos}
 use Rattle.laws.specs.Choice.{if_then_else_, within}
 use Rattle.text.specs.Number.{Head, none, some, numberHead, fourDigits, fourNumber, fourHead}
-use Rattle.text.specs.Form.{Item, byte, number, four, Values, other, values, numbers}
+use Rattle.text.specs.Form.{Item, byte, number, four, Values, other, values, valueCount}
 use Rattle.text.specs.Read.{hold}
 use Rattle.text.specs.declared.number.Found.{Found}
 use Rattle.text.specs.declared.number.Found.the-variants.{Nothing, Value}
@@ -49,7 +49,7 @@ valueHead b s = if eqb b 35 then numberHead s else fourHead s
 
 -- the values that the reader gives for a form
 abbrev pub fieldsValues : List ℕ → Fields → Values
-fieldsValues form r = if r .ok then values (take (numbers (itemsOf form)) (r .values)) else other
+fieldsValues form r = if r .ok then values (take (valueCount (itemsOf form)) (r .values)) else other
 
 abbrev pub reads : Values → Bool
 reads other = false

@@ -2,7 +2,7 @@
 ghost use mathlib.Core.Path.{_≡_};
 ghost use Prim.Native.Nat.{_≤_};
 ghost use lib.ListN.{drop};
-ghost use Rattle.text.specs.Form.{lineValues, numbers};
+ghost use Rattle.text.specs.Form.{lineValues, valueCount};
 ghost use Rattle.text.specs.Read.{held};
 ghost use Rattle.text.specs.Views.{isLiteral, itemsOf, valueHead, found, heldHead, fieldsValues};
 use crate::number::Found;
@@ -33,7 +33,7 @@ fn read_value(line: &[u8], at: usize, item: u8) -> Found
 }
 
 pub(crate) fn read_form(line: &[u8], form: &[u8]) -> Fields
-    requires { ⌜ numbers (itemsOf (now form)) ≤ 11 ⌝ }
+    requires { ⌜ valueCount (itemsOf (now form)) ≤ 11 ⌝ }
     ensures { λ r. ⌜ fieldsValues (now (form .entry)) r ≡ held (lineValues (itemsOf (now (form .entry))) (now (line .entry))) ⌝ }
 {
     let mut values = [0i64; 11];

@@ -3,7 +3,7 @@ ghost use mathlib.Core.Path.{_≡_};
 ghost use Prim.Native.Nat.{_≤_, min};
 ghost use lib.ListN.{drop};
 ghost use Rattle.text.specs.Number.{isDigit, signed, digits, positive, numberHead, fourHead};
-ghost use Rattle.text.specs.Read.{limit, unsigned};
+ghost use Rattle.text.specs.Read.{limit, unsignedOf};
 ghost use Rattle.text.specs.Views.{byteIs, digitFrom, heldHead, found, fourOf};
 
 const LIMIT: u64 = 1000000000;
@@ -131,7 +131,7 @@ pub(crate) fn read_four(line: &[u8], at: usize) -> Found
 
 // A negative value is too small for a field that is never negative, as the limit is too large.
 pub(crate) fn unsigned_of(value: i64) -> u64
-    ensures { λ r. ⌜ r ≡ unsigned value ⌝ }
+    ensures { λ r. ⌜ r ≡ unsignedOf value ⌝ }
 {
     if value < 0 {
         return LIMIT;

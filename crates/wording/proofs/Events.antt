@@ -14,7 +14,7 @@ use Rattle.text.specs.declared.Read.the-variants as read
 use Rattle.controller.specs.Serve.{lineAfter, recordsAfter, talliesAfter}
 use Rattle.controller.specs.Input.{holding, tookAll}
 use Rattle.controller.proofs.Taking.{took-lf, took-other, took-none}
-use Rattle.wording.specs.Claim.{eventIn, eventsIn, Holds, TextClaim}
+use Rattle.wording.specs.Claim.{eventIn, eventsIn, HoldsWorld, TextClaim}
 
 events-lf : (text : List ℕ) (b : ℕ) (s : List ℕ) → eqb b 10 ≡ true → eventsIn text (b ∷ s) ≡ eventIn (readLine text) ++ eventsIn [] s
 unfolding eventsIn
@@ -38,11 +38,11 @@ ran-one w e es = refl
 
 -- what holds of the bytes s, whatever world they come to
 abbrev Runs : List ℕ → List ℕ → World → Type 0
-Runs text s w = Holds (tookAll (holding (w .line) (w .settings) (w .tallies) text) s) (runFrom w (eventsIn text s))
+Runs text s w = HoldsWorld (tookAll (holding (w .line) (w .settings) (w .tallies) text) s) (runFrom w (eventsIn text s))
 
 -- a line of text that says r, and the bytes behind it
 line-runs : (w : World) (s : List ℕ) (r : Read) → ((k : World) → Runs [] s k)
-    → Holds (tookAll (holding (lineAfter (w .line) (w .settings) (w .tallies) r) (recordsAfter (w .line) (w .settings) (w .tallies) r) (talliesAfter (w .line) (w .settings) (w .tallies) r) []) s) (runFrom w (eventIn r ++ eventsIn [] s))
+    → HoldsWorld (tookAll (holding (lineAfter (w .line) (w .settings) (w .tallies) r) (recordsAfter (w .line) (w .settings) (w .tallies) r) (talliesAfter (w .line) (w .settings) (w .tallies) r) []) s) (runFrom w (eventIn r ++ eventsIn [] s))
 unfolding lineAfter recordsAfter talliesAfter
 line-runs w s (read.Event e) rest = rw (ran-one w e (eventsIn [] s)) (rest (after w e))
 line-runs w s (read.Report code) rest = rest w

@@ -14,7 +14,7 @@ use Rattle.laws.proofs.Tests.{both, clash}
 use Rattle.decimal.specs.Number.{decimal, numberText}
 use Rattle.decimal.proofs.Digits.{decimal-digit, decimal-more, by-digits}
 use Rattle.text.specs.Number.{Head, none, some, isDigit, signed, digits, positive, numberHead, fourDigits, fourNumber, fourHead, fourText}
-use Rattle.text.specs.Form.{Item, byte, number, four, plain, fieldItems, moreItems, fieldsForm, Values, other, values, also, andRest, lineValues, lineText}
+use Rattle.text.specs.Form.{Item, byte, number, four, wordItems, fieldItems, moreItems, fieldsForm, Values, other, values, also, andRest, lineValues, lineText}
 use Rattle.wording.specs.OneText.{OneText}
 use Rattle.text.specs.Views.{digitFrom}
 use Rattle.text.proofs.Heads.{never, digits-end, digit-bounds, four-bounds}
@@ -111,14 +111,14 @@ values-of-text (four ∷ form) (pos n ∷ vs) f =
     ap (andRest (lineValues form)) (head-of-four n (lineText form vs) (f .0)) ∙ ap (also (pos n)) (values-of-text form vs (f .1))
 values-of-text (four ∷ form) (negsuc n ∷ vs) f = absurd f
 
-fit-plain : (word : String) (form : List Item) (vs : List ℤ) → Fit form vs → Fit (plain word ++ form) vs
-fit-plain empty form vs f = f
-fit-plain (c then word) form vs f = fit-plain word form vs f
+fit-word : (word : String) (form : List Item) (vs : List ℤ) → Fit form vs → Fit (wordItems word ++ form) vs
+fit-word empty form vs f = f
+fit-word (c then word) form vs f = fit-word word form vs f
 
 -- a field, and those behind it
 fit-field : (key : String) (form : List Item) (v : ℤ) (vs : List ℤ) → starts form ≡ false → Fit form vs → Fit (fieldItems key ++ form) (v ∷ vs)
 fit-field key form v vs o f =
-    rw (append-assoc (plain key) (plain "=" ++ number ∷ []) form) (fit-plain key (byte 61 ∷ number ∷ form) (v ∷ vs) (o, f))
+    rw (append-assoc (wordItems key) (wordItems "=" ++ number ∷ []) form) (fit-word key (byte 61 ∷ number ∷ form) (v ∷ vs) (o, f))
 
 more-starts : (keys : List String) → starts (moreItems keys) ≡ false
 more-starts [] = refl
@@ -265,6 +265,6 @@ pub one-text : OneText
 one-text = record {
   taken = text-of-values;
   fields = λ keys vs h. values-of-text (fieldsForm keys) vs (fit-fields keys vs h);
-  commands = λ word. rw append-nil at (values-of-text (plain word ++ []) [] (fit-plain word [] [] tt));
-  codes = λ word n h. values-of-text (plain word ++ four ∷ []) (pos n ∷ []) (fit-plain word (four ∷ []) (pos n ∷ []) (h, tt));
+  commands = λ word. rw append-nil at (values-of-text (wordItems word ++ []) [] (fit-word word [] [] tt));
+  codes = λ word n h. values-of-text (wordItems word ++ four ∷ []) (pos n ∷ []) (fit-word word (four ∷ []) (pos n ∷ []) (h, tt));
 }

@@ -25,11 +25,11 @@ eventsIn text [] = []
 eventsIn text (b ∷ s) = if eqb b lf then eventIn (readLine text) ++ eventsIn [] s else eventsIn (text ++ b ∷ []) s
 
 -- the line and the memories are those of a world
-pub record Holds (p : Progress) (w : World) : Type 0 where
+pub record HoldsWorld (p : Progress) (w : World) : Type 0 where
   pub line : p .line ≡ w .line
   pub records : p .records ≡ w .settings
   pub tallies : p .tallies ≡ w .tallies
 
 pub record TextClaim : Type 0 where
-  pub held : (input : List ℕ) → Holds (tookAll freshProgress input) (run (eventsIn [] input))
+  pub held : (input : List ℕ) → HoldsWorld (tookAll freshProgress input) (run (eventsIn [] input))
   pub stands : (input : List ℕ) → Stands (run (eventsIn [] input))

@@ -18,8 +18,8 @@ lines [] = []
 lines (l ∷ ls) = bytes l ++ lf ∷ lines ls
 
 -- what the example's one verdict leaves on the sheet of code 0
-abbrev pub printed : Sheet
-printed =
+abbrev pub exampleSheet : Sheet
+exampleSheet =
     record {
       total = 1;
       ng = 0;
@@ -46,6 +46,6 @@ pub record Printing : Type 0 where
   pub verdict : replyText (Done (record { status = 1; busy = 0; conveyor = 1; sorter = 0; detected = 0; outcome = 3; net = pos 1004; tallied = 1; error = 255 }))
       ≡ lines ("status=1 busy=0 conveyor=1 sorter=0 detected=0 outcome=3 net=1004 tallied=1 error=none" ∷ [])
   pub refused : replyText (Refused 2 0) ≡ lines ("refused=2 input=0" ∷ [])
-  pub sheet : sheetText 0 printed
+  pub sheet : sheetText 0 exampleSheet
       ≡ lines ("code=0" ∷ "total=1" ∷ "ng=0" ∷ "lolo=0" ∷ "lo=0" ∷ "ok=1" ∷ "hi=0" ∷ "hihi=0" ∷ "foreign=0" ∷ "double=0" ∷ "crash=0"
       ∷ "max=1004" ∷ "min=1004" ∷ "sum=1004" ∷ "mean=1004" ∷ "deviation=4" ∷ "sd=none" ∷ "sdp=0" ∷ [])

@@ -45,7 +45,7 @@ use Rattle.sheet.specs.declared.answer.Report.{Report}
 use Rattle.text.specs.declared.Read.{Read}
 use Rattle.text.specs.declared.Read.the-variants as Said
 use Rattle.sheet.specs.Report.{reportOn}
-use Rattle.controller.specs.Answer.{Answer, reported, refusedText, putAt, endAt}
+use Rattle.controller.specs.Answer.{Answer, reportAnswer, refusedAnswer, putAt, endAt}
 use Rattle.controller.specs.Serve.{otherAnswer}
 use Rattle.settings.proofs.Settings as T
 use Rattle.sheet.proofs.answer.Report as P
@@ -115,10 +115,10 @@ module _ {M : Type 1} (𝓤 : URA M) (H : Heap 𝓤) (A : Atoms 𝓤) (W : Given
 
   -- the answers to a report and to other text
   abbrev told : ℕ → Answer
-  told c = reported c (reportOn ys ts c)
+  told c = reportAnswer c (reportOn ys ts c)
 
   abbrev refused : Answer
-  refused = refusedText (length ys) ts
+  refused = refusedAnswer (length ys) ts
 
   -- ---- the exit, after the answer x
   exits : (x : Answer) → x ≡ otherAnswer ys ts said → endAt pos x us < 2 ^ 64 → length (putAt pos x us) ≡ length us

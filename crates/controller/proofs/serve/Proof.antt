@@ -53,7 +53,7 @@ use Rattle.line.specs.Step.{stepOn, settingsAfter}
 use Rattle.line.specs.declared.step.Step.{Step}
 use Rattle.text.specs.declared.Read.{Read}
 use Rattle.text.specs.Read.{readLine}
-use Rattle.controller.specs.Answer.{Answer, replied, putAt, endAt}
+use Rattle.controller.specs.Answer.{Answer, replyAnswer, putAt, endAt}
 use Rattle.controller.specs.Serve.{otherAnswer, servedStep, answerTo, lineAfter}
 use Rattle.controller.specs.declared.Served.{Served}
 use Rattle.settings.proofs.Settings as T
@@ -234,14 +234,14 @@ module _ {M : Type 1} (𝓤 : URA M) (H : Heap 𝓤) (A : Atoms 𝓤) (W : Given
               assigns ! (agg ! (and-then ! (load ! (from ! (stop !)) (look ! 10 refl)) (and-then ! (load ! (from ! (fld ! refl (stop !))) (look-in ! 42 (sub ! 1 refl (whole !)))) (no-more !)))) (from ! (stop !)) (init ! 8 refl (tt, (tt, (record { fits = room₃ .0 }, tt)))) $
               move ! (6 ∷ 7 ∷ []) $ use2 W (raw (Answered 𝓤 H A mem run .pre (to-answered 𝓤 H A mem run W κ₃ q₃ b₃ o₃ (length us) γ₃ us pos pos-fits made w₁ made-is))) (asks-answered 𝓤 H A mem run W κ₃ q₃ b₃ o₃ (length us) γ₃ us pos pos-fits made w₁ made-is) $
               calls-at ! fm (Answered 𝓤 H A mem run) known-answered (to-answered 𝓤 H A mem run W κ₃ q₃ b₃ o₃ (length us) γ₃ us pos pos-fits made w₁ made-is) (and-then ! (load ! (from ! (stop !)) (look ! 31 refl)) (and-then ! (load ! (from ! (stop !)) (look ! 7 refl)) (and-then ! (load ! (from ! (stop !)) (look ! 39 refl)) (no-more !)))) (λ w₂.
-              use1 W (later (given (Is O.the-row (servedStep made us pos) (w₂ ∷ [])) (given (length (putAt pos (replied (made .reply)) us) ≡ length us) (‵ (finally u8 γ₃ (putAt pos (replied (made .reply)) us)) ⊛ ‵ (flft κ₃ q₃)))))
+              use1 W (later (given (Is O.the-row (servedStep made us pos) (w₂ ∷ [])) (given (length (putAt pos (replyAnswer (made .reply)) us) ≡ length us) (‵ (finally u8 γ₃ (putAt pos (replyAnswer (made .reply)) us)) ⊛ ‵ (flft κ₃ q₃)))))
               (ended-answered 𝓤 H A mem run W κ₃ q₃ b₃ o₃ (length us) γ₃ us pos pos-fits made w₁ made-is w₂) $ await ! tt $ learn ! (λ r-is. learn ! (λ m₃. split ! $
               -- [the last output; κ₃'s token; the last records; κ's; the last tallies; κ₁'s; the text; κ₂'s; _22; …]
               land ! (from ! (stop !)) (init ! 52 refl (served-typed 𝓤 H A W (servedStep made us pos) w₂ r-is)) $
               returns ! {Kf = Post} {r = w₂} (look ! 52 refl) $
               move ! (52 ∷ 53 ∷ 50 ∷ 51 ∷ 48 ∷ 49 ∷ 46 ∷ 47 ∷ 44 ∷ 45 ∷ 42 ∷ 43 ∷ 40 ∷ 41 ∷ 38 ∷ 39 ∷ 36 ∷ 37 ∷ 34 ∷ 35 ∷ 32 ∷ 33 ∷ 30 ∷ 31 ∷ 28 ∷ 29 ∷ 26 ∷ 27 ∷ 24 ∷ 25 ∷ 22 ∷ 23 ∷ 20 ∷ 21 ∷ 18 ∷ 19 ∷ 16 ∷ 17 ∷ 14 ∷ 15 ∷ 12 ∷ 13 ∷ 10 ∷ 11 ∷ 8 ∷ 9 ∷ []) $
               leaves ! (some-of _ ∷ some-of _ ∷ some-of _ ∷ some-of _ ∷ some-of _ ∷ some-of _ ∷ some-of _ ∷ some-of _ ∷ some-of _ ∷ none-of ∷ some-of _ ∷ none-of ∷ none-of ∷ none-of ∷ none-of ∷ none-of ∷ none-of ∷ some-of _ ∷ some-of _ ∷ some-of _ ∷ some-of _ ∷ some-of _ ∷ some-of _ ∷ []) $
-              keep ! (2 ∷ 3 ∷ 4 ∷ 5 ∷ 6 ∷ 7 ∷ 0 ∷ 1 ∷ []) $ by ! (exits (made .line) w₂ xs ws (replied (made .reply)) (after-step (v .1) line ys xs ts ws made d d₁ d₂) r-is m m₁ m₃))))))))))))))),
+              keep ! (2 ∷ 3 ∷ 4 ∷ 5 ∷ 6 ∷ 7 ∷ 0 ∷ 1 ∷ []) $ by ! (exits (made .line) w₂ xs ws (replyAnswer (made .reply)) (after-step (v .1) line ys xs ts ws made d d₁ d₂) r-is m m₁ m₃))))))))))))))),
           ((λ h. absurd (miss (1 ∷ 2 ∷ []) 0 tt h)), (λ n. absurd (n .0 .1 refl))),
         )
         ))))))))))))))))))))))))))

@@ -4,7 +4,7 @@ use native.Mathlib.Omega.{arith}
 use mathlib.Core.Path.{refl}
 use Prim.Native.Nat.{_<_, _^_}
 use lib.ListN.{length}
-use Rattle.controller.specs.Answer.{printed}
+use Rattle.controller.specs.Answer.{sheetAnswer}
 use Rattle.controller.proofs.Behind.{past, behind, fits}
 use Rattle.controller.proofs.answer.put_sheet.Statement.{statement}
 use Rattle.controller.proofs.answer.put_sheet.Tie as tie
@@ -12,7 +12,7 @@ use Rattle.controller.proofs.answer.put_sheet.Tie as tie
 returns : tie.Need-returns
 returns c =
     let a = c .before .before .args in
-    let p = past (a .at) (printed (a .code) (a .s)) (a .out .now) refl (omega (arith, c .if1 .taken)) in
+    let p = past (a .at) (sheetAnswer (a .code) (a .s)) (a .out .now) refl (omega (arith, c .if1 .taken)) in
     (p .ends, p .output)
 
 sub-sheet-lines : tie.Need-sub-sheet-lines
@@ -32,7 +32,7 @@ add-result : tie.Need-add-result
 add-result c =
     let a = c .before .before .before .before .before .before .args in
     let w = c .before .before .sheet-lines in
-    let h = fits (a .at) (printed (a .code) (a .s)) (a .out .now) (w .last .0) (w .result) (omega (arith, c .before .before .before .before .if1 .left)) (w .ensures .0) (w .ensures .1) (c .before .out .given .0) in
+    let h = fits (a .at) (sheetAnswer (a .code) (a .s)) (a .out .now) (w .last .0) (w .result) (omega (arith, c .before .before .before .before .if1 .left)) (w .ensures .0) (w .ensures .1) (c .before .out .given .0) in
     let k : length (a .out .now) < 2 ^ 64 = search needs in
     record { fits = omega (arith, h, k) }
 
@@ -43,7 +43,7 @@ returns-2 : tie.Need-returns-2
 returns-2 c =
     let a = c .before .before .before .before .before .before .args in
     let w = c .before .before .sheet-lines in
-    let p = behind (a .at) (printed (a .code) (a .s)) (a .out .now) (w .last .0) (w .result) (w .ensures .0) (w .ensures .1) in
+    let p = behind (a .at) (sheetAnswer (a .code) (a .s)) (a .out .now) (w .last .0) (w .result) (w .ensures .0) (w .ensures .1) in
     (p .ends, p .output)
 
 pub put-sheet-spec : {M : Type 1} → statement M

@@ -5,7 +5,7 @@ use mathlib.Core.Path.{_≡_, refl, sym, ap, _∙_}
 use native.Mathlib.Omega.{arith}
 use lib.ListN.{length, length-set}
 use Rattle.decimal.specs.Number.{decimal}
-use Rattle.print.specs.Steps.{putAt}
+use Rattle.print.specs.Steps.{withTextAt}
 use Rattle.print.proofs.Put.{put-one, put-last}
 use Rattle.decimal.proofs.Digits.{decimal-digit, decimal-more, length-digit, length-more}
 use Rattle.print.proofs.buffer.put_decimal.Statement.{statement}
@@ -13,7 +13,7 @@ use Rattle.print.proofs.buffer.put_decimal.Tie as tie
 
 abbrev Inv-loop : tie.InvT-loop
 Inv-loop out₀ at n end place₀ m₀ out place m =
-    (place ≡ at + length (decimal m)) × (place ≤ end) × (length out ≡ length out₀) × (putAt out at (decimal m) ≡ putAt out₀ at (decimal n))
+    (place ≡ at + length (decimal m)) × (place ≤ end) × (length out ≡ length out₀) × (withTextAt out at (decimal m) ≡ withTextAt out₀ at (decimal n))
 
 abbrev μ-loop : tie.MeasureT-loop
 μ-loop out₀ at n end place₀ m₀ out place m = m
@@ -50,7 +50,7 @@ loop-again c =
       e,
       omega arith,
       length-set (l .out) (l .place - 1) (c .digit .result) ∙ l .inv .2,
-      rw (e, c .digit .ensures) (put-last (l .out) at (decimal (l .m / 10)) (48 + l .m % 10) room ∙ ap (putAt (l .out) at) (sym more) ∙ l .inv .3),
+      rw (e, c .digit .ensures) (put-last (l .out) at (decimal (l .m / 10)) (48 + l .m % 10) room ∙ ap (withTextAt (l .out) at) (sym more) ∙ l .inv .3),
     )
 
 digit-requires-2 : tie.Need-digit-requires-2 Inv-loop μ-loop
@@ -72,7 +72,7 @@ returns c =
     let size = length-digit (l .m) (c .before .loop-test .left) in
     let room : at < length (l .out) = omega arith in
     record {
-      bytes = rw (c .digit2 .ensures) (put-one (l .out) at (48 + l .m) room ∙ ap (putAt (l .out) at) (sym one) ∙ l .inv .3);
+      bytes = rw (c .digit2 .ensures) (put-one (l .out) at (48 + l .m) room ∙ ap (withTextAt (l .out) at) (sym one) ∙ l .inv .3);
       place = omega arith;
       fits = c .before .before .before .before .before .pre;
       short = omega arith;

@@ -7,12 +7,12 @@ use lib.Dec.{T}
 use lib.IntN.{ℤ, pos, negsuc, natAbs}
 use lib.Signed.{ltZ, nonNeg}
 use mir.Facts.{toZ-ofZ, fits-natAbs}
-use Rattle.text.specs.Read.{limit, unsigned}
+use Rattle.text.specs.Read.{limit, unsignedOf}
 use Rattle.text.proofs.Heads.{never}
 use Rattle.text.proofs.number.unsigned_of.Statement.{statement}
 use Rattle.text.proofs.number.unsigned_of.Tie as tie
 
-negative : (z : ℤ) → ltZ z (pos 0) ≡ true → limit ≡ unsigned z
+negative : (z : ℤ) → ltZ z (pos 0) ≡ true → limit ≡ unsignedOf z
 negative (pos n) h = never (sym (le-ltb n 0 zero-le) ∙ h)
 negative (negsuc n) h = refl
 
@@ -20,7 +20,7 @@ nonneg : (z : ℤ) → ltZ z (pos 0) ≡ false → T (nonNeg z)
 nonneg (pos n) h = tt
 nonneg (negsuc n) h = never (sym h)
 
-same : (z : ℤ) → ltZ z (pos 0) ≡ false → natAbs z ≡ unsigned z
+same : (z : ℤ) → ltZ z (pos 0) ≡ false → natAbs z ≡ unsignedOf z
 same (pos n) h = refl
 same (negsuc n) h = never (sym h)
 
