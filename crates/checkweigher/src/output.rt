@@ -2,7 +2,7 @@
 use libc::STDOUT_FILENO;
 
 // No answer is longer.
-const LONGEST: usize = 1024;
+const LONGEST: usize = print::SHEET_ROOM;
 
 pub(crate) fn write_out(out: &[u8], at: usize) {
     if at <= out.len() {

@@ -13,8 +13,8 @@ use Rattle.sheet.specs.declared.answer.Report.the-variants as report
 use Rattle.sheet.specs.declared.sheet.Sheet.{Sheet}
 use Rattle.event.specs.declared.reply.Reply.{Reply}
 use Rattle.event.specs.declared.reply.Reply.the-variants.{Refused}
-use Rattle.print.specs.Reply.{replyText}
-use Rattle.print.specs.Sheet.{sheetText}
+use Rattle.print.specs.Reply.{replyText, replyRoom}
+use Rattle.print.specs.Sheet.{sheetText, sheetRoom}
 use Rattle.print.specs.Written.{bufferAfter, lengthWritten}
 
 -- a text to print, and the least room that it is written to
@@ -23,10 +23,10 @@ pub record Answer : Type 0 where
   pub text : List ℕ
 
 abbrev pub replyAnswer : Reply → Answer
-replyAnswer r = record { room = 256; text = replyText r }
+replyAnswer r = record { room = replyRoom; text = replyText r }
 
 abbrev pub sheetAnswer : ℕ → Sheet → Answer
-sheetAnswer code s = record { room = 1024; text = sheetText code s }
+sheetAnswer code s = record { room = sheetRoom; text = sheetText code s }
 
 -- a report's refusal, or the code's sheet
 abbrev pub reportAnswer : ℕ → Report → Answer

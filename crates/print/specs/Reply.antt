@@ -42,3 +42,7 @@ refusedText number input = joined (bytes " ") (field "refused" (decimal number) 
 abbrev pub replyText : Reply → List ℕ
 replyText (Refused number input) = refusedText number input
 replyText (Done d) = doneText d
+
+-- a buffer of at least so many bytes has room for it
+abbrev pub replyRoom : ℕ
+replyRoom = 256

@@ -46,3 +46,7 @@ spreads s = field "sd" (spreadText (s .sd)) ∷ field "sdp" (spreadText (s .sdp)
 
 unfoldable pub sheetText : ℕ → Sheet → List ℕ
 sheetText code s = joined lineEnd (totals code s ++ (grades s ++ (faults s ++ (weightFigures s ++ spreads s)))) ++ lineEnd
+
+-- a buffer of at least so many bytes has room for it
+abbrev pub sheetRoom : ℕ
+sheetRoom = 1024

@@ -6,3 +6,8 @@ mod report;
 
 pub use reply::reply_line;
 pub use report::sheet_lines;
+
+// The room that the line of a reply is written to; none has more than 252 bytes.
+pub const REPLY_ROOM: usize = 256;
+// The room that a sheet is written to; none has more than 466 bytes.
+pub const SHEET_ROOM: usize = 1024;

@@ -4,9 +4,10 @@ ghost use Prim.Native.Nat.{_+_, _≤_};
 ghost use lib.ListN.{length};
 ghost use Rattle.decimal.specs.Bytes.{bytes};
 ghost use Rattle.print.specs.Text.{ahead, joined};
-ghost use Rattle.print.specs.Reply.{errorText, shown, did, doneText, refusedText, replyText};
+ghost use Rattle.print.specs.Reply.{errorText, shown, did, doneText, refusedText, replyText, replyRoom};
 ghost use Rattle.print.specs.Written.{bufferAfter, lengthWritten};
 ghost use Rattle.print.specs.Steps.{Wrote, Field};
+use crate::REPLY_ROOM;
 use crate::buffer::put;
 use crate::field::put_count;
 use crate::field::put_none;
@@ -14,13 +15,13 @@ use crate::field::put_number;
 use event::Done;
 use event::Reply;
 
-// The reply as a line at the front of `out`, and its length. No line has more than 252 bytes: a buffer of fewer than 256 is
-// left as it is, and the answer is 0.
+// The reply as a line at the front of `out`, and its length. A buffer of less than its room is left as it is, and the answer
+// is 0.
 pub fn reply_line(out: &mut [u8], r: Reply) -> usize
-    ensures { λ n. ⌜ n ≡ lengthWritten 256 (replyText r) (now (out .entry)) ⌝ }
-    ensures { λ _. ⌜ now (out .exit) ≡ bufferAfter 256 (replyText r) (now (out .entry)) ⌝ }
+    ensures { λ n. ⌜ n ≡ lengthWritten replyRoom (replyText r) (now (out .entry)) ⌝ }
+    ensures { λ _. ⌜ now (out .exit) ≡ bufferAfter replyRoom (replyText r) (now (out .entry)) ⌝ }
 {
-    if out.len() < 256 {
+    if out.len() < REPLY_ROOM {
         return 0;
     }
     match r {

@@ -3,9 +3,10 @@ ghost use mathlib.Core.Path.{_≡_};
 ghost use Prim.Native.Nat.{_+_, _≤_};
 ghost use lib.ListN.{length};
 ghost use Rattle.print.specs.Text.{lineEnd, ahead, joined};
-ghost use Rattle.print.specs.Sheet.{totals, grades, faults, weightFigures, spreads, sheetText};
+ghost use Rattle.print.specs.Sheet.{totals, grades, faults, weightFigures, spreads, sheetText, sheetRoom};
 ghost use Rattle.print.specs.Written.{bufferAfter, lengthWritten};
 ghost use Rattle.print.specs.Steps.{Wrote};
+use crate::SHEET_ROOM;
 use crate::buffer::put;
 use crate::field::put_count;
 use crate::field::put_figure;
@@ -13,13 +14,13 @@ use crate::field::put_number;
 use crate::field::put_spread;
 use sheet::Sheet;
 
-// The sheet of a code as eighteen lines at the front of `out`, and their length. They have at most 466 bytes: a buffer of
-// fewer than 1024 is left as it is, and the answer is 0.
+// The sheet of a code as eighteen lines at the front of `out`, and their length. A buffer of less than its room is left as it
+// is, and the answer is 0.
 pub fn sheet_lines(out: &mut [u8], code: u64, s: Sheet) -> usize
-    ensures { λ n. ⌜ n ≡ lengthWritten 1024 (sheetText code s) (now (out .entry)) ⌝ }
-    ensures { λ _. ⌜ now (out .exit) ≡ bufferAfter 1024 (sheetText code s) (now (out .entry)) ⌝ }
+    ensures { λ n. ⌜ n ≡ lengthWritten sheetRoom (sheetText code s) (now (out .entry)) ⌝ }
+    ensures { λ _. ⌜ now (out .exit) ≡ bufferAfter sheetRoom (sheetText code s) (now (out .entry)) ⌝ }
 {
-    if out.len() < 1024 {
+    if out.len() < SHEET_ROOM {
         return 0;
     }
     let a = put_totals(out, code, s);

@@ -128,5 +128,8 @@ firstOf [] s = read.Other
 firstOf (k ∷ more) s = says (held (lineValues (k .form) s)) (k .means) (firstOf more s)
 
 -- "over 120 bytes" is no line
+abbrev pub longestLine : ℕ
+longestLine = 120
+
 abbrev pub readLine : List ℕ → Read
-readLine s = if leb (length s) 120 then firstOf kinds s else read.Other
+readLine s = if leb (length s) longestLine then firstOf kinds s else read.Other

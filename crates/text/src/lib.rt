@@ -8,6 +8,9 @@ mod reader;
 
 pub use reader::read_line;
 
+// A line of text has at most so many bytes.
+pub const LONGEST_LINE: usize = 120;
+
 pub enum Read {
     Event(Event),
     Report(u64),

@@ -4,6 +4,7 @@ ghost use mathlib.Core.List.{[], _∷_};
 ghost use Rattle.text.specs.Form.{byte, lineValues};
 ghost use Rattle.text.specs.Read.{sample, setup, store, report, codedCommands, commands, firstOf, readLine};
 ghost use Rattle.text.specs.Views.{reads};
+use crate::LONGEST_LINE;
 use crate::Read;
 use crate::form::read_form;
 use crate::number::unsigned_of;
@@ -159,7 +160,7 @@ fn read_command(line: &[u8]) -> Read
 pub fn read_line(line: &[u8]) -> Read
     ensures { λ r. ⌜ r ≡ readLine (now (line .entry)) ⌝ }
 {
-    if 120 < line.len() {
+    if LONGEST_LINE < line.len() {
         return Read::Other;
     }
     if line.len() == 0 {

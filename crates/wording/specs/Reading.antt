@@ -6,7 +6,7 @@ use Rattle.decimal.specs.Bytes.{bytes}
 use Rattle.text.specs.declared.Read.{Read}
 use Rattle.text.specs.declared.Read.the-variants as read
 use Rattle.event.specs.declared.Event.the-variants as event
-use Rattle.text.specs.Read.{readLine}
+use Rattle.text.specs.Read.{limit, readLine}
 
 abbrev pub said : String → Read
 said s = readLine (bytes s)
@@ -45,10 +45,10 @@ pub record Reading : Type 0 where
   pub clear : said "CDTL0100" ≡ read.Event (event.ClearCode 100)
   pub report : said "report=0" ≡ read.Report 0
   -- well formed, but too large or too small: carried out of range
-  pub large : said "report=99999999999999999999999999999999999999" ≡ read.Report 1000000000
-  pub small : said "report=-1" ≡ read.Report 1000000000
+  pub large : said "report=99999999999999999999999999999999999999" ≡ read.Report limit
+  pub small : said "report=-1" ≡ read.Report limit
   -- 120 bytes, and one more
-  pub longest : said "report=99999999999999999999999999999999999999999999999999999999999999999999999999999999999999999999999999999999999999999" ≡ read.Report 1000000000
+  pub longest : said "report=99999999999999999999999999999999999999999999999999999999999999999999999999999999999999999999999999999999999999999" ≡ read.Report limit
   pub too-long : said "report=999999999999999999999999999999999999999999999999999999999999999999999999999999999999999999999999999999999999999999" ≡ read.Other
   -- not well formed
   pub plus : said "report=+1" ≡ read.Other

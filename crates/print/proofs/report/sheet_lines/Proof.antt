@@ -2,7 +2,7 @@
 use denote.Ref.{now}
 use native.Mathlib.Omega.{arith}
 use Rattle.print.specs.Text.{lineEnd}
-use Rattle.print.specs.Sheet.{totals, grades, faults, weightFigures, spreads, sheetText}
+use Rattle.print.specs.Sheet.{totals, grades, faults, weightFigures, spreads, sheetText, sheetRoom}
 use Rattle.print.proofs.Put.{wrote-then, wrote-as, wrote-front, kept-front}
 use Rattle.print.proofs.Parts.{five-parts}
 use borrow.Author.Needs.{needs}
@@ -12,7 +12,7 @@ use Rattle.print.proofs.report.sheet_lines.Tie as tie
 returns : tie.Need-returns
 returns c =
     let a = c .before .before .args in
-    kept-front 1024 (sheetText (a .code) (a .s)) (now (a .out)) (c .if1 .taken)
+    kept-front sheetRoom (sheetText (a .code) (a .s)) (now (a .out)) (c .if1 .taken)
 
 put-totals-requires : tie.Need-put-totals-requires
 put-totals-requires c κs = search needs
@@ -52,7 +52,7 @@ returns-2 c =
     let s = test .before .before .args .s in
     let rest = wrote-then (third .put-faults .ensures) (wrote-then (fourth .put-weights .ensures) (wrote-then (fifth .put-spreads .ensures) (end .put .ensures))) in
     let w = wrote-then (first .put-totals .ensures) (wrote-then (second .put-grades .ensures) rest) in
-    wrote-front 1024 (test .if1 .left) (wrote-as (five-parts lineEnd (totals code s) (grades s) (faults s) (weightFigures s) (spreads s) lineEnd (omega arith)) w)
+    wrote-front sheetRoom (test .if1 .left) (wrote-as (five-parts lineEnd (totals code s) (grades s) (faults s) (weightFigures s) (spreads s) lineEnd (omega arith)) w)
 
 pub sheet-lines-spec : {M : Type 1} → statement M
 sheet-lines-spec =
