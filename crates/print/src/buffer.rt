@@ -39,11 +39,12 @@ pub(crate) fn put_signed(out: &mut [u8], at: usize, v: i64) -> usize
     requires { ⌜ at + 20 ≤ length (now out) ⌝ }
     ensures { λ r. ⌜ Wrote (now (out .entry)) at (numberText v) 20 (now (out .exit)) r ⌝ }
 {
+    let n = size(v);
     if 0 <= v {
-        return put_decimal(out, at, size(v));
+        return put_decimal(out, at, n);
     }
     out[at] = b'-';
-    put_decimal(out, at + 1, size(v))
+    put_decimal(out, at + 1, n)
 }
 
 // How many digits n has.

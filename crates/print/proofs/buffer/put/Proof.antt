@@ -20,21 +20,6 @@ abbrev μ-loop : tie.MeasureT-loop
 loop-holds : tie.Need-loop-holds Inv-loop μ-loop
 loop-holds c = let a = c .args in (omega arith, refl, paste-zero (now (a .out)) (a .at) (now (a .text)))
 
-shared-slice-read-out : tie.Need-shared-slice-read-out Inv-loop μ-loop
-shared-slice-read-out c = search needs
-
-add-out : tie.Need-add-out Inv-loop μ-loop
-add-out c = search needs
-
-slice-write-out : tie.Need-slice-write-out Inv-loop μ-loop
-slice-write-out c = search needs
-
-add-j : tie.Need-add-j Inv-loop μ-loop
-add-j c = search needs
-
-loop-less : tie.Need-loop-less Inv-loop μ-loop
-loop-less c = search needs
-
 loop-again : tie.Need-loop-again Inv-loop μ-loop
 loop-again c =
     let l = c .before .before .loop in
@@ -46,12 +31,6 @@ loop-again c =
       length-set (l .out) (a .at + l .j) (getD s (l .j) 0) ∙ l .inv .1,
       rw (l .inv .2, add-one (l .j)) (paste-suc b (a .at) s (l .j) 0 room (c .before .loop-test .taken)),
     )
-
-add-result : tie.Need-add-result Inv-loop μ-loop
-add-result c = search needs
-
-same-length : tie.Need-same-length Inv-loop μ-loop
-same-length c = search needs
 
 returns : tie.Need-returns Inv-loop μ-loop
 returns c =
@@ -72,12 +51,7 @@ put-spec =
     Inv-loop
     μ-loop
     loop-holds
-    shared-slice-read-out
-    add-out
-    slice-write-out
-    add-j
-    loop-less
+    (search needs) (search needs) (search needs) (search needs) (search needs)
     loop-again
-    add-result
-    same-length
+    (search needs) (search needs)
     returns)

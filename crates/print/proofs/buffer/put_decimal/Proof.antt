@@ -18,12 +18,6 @@ Inv-loop out₀ at n end place₀ m₀ out place m =
 abbrev μ-loop : tie.MeasureT-loop
 μ-loop out₀ at n end place₀ m₀ out place m = m
 
-width-requires : tie.Need-width-requires Inv-loop μ-loop
-width-requires c κs = search needs
-
-add-end : tie.Need-add-end Inv-loop μ-loop
-add-end c = search needs
-
 loop-holds : tie.Need-loop-holds Inv-loop μ-loop
 loop-holds c = (omega arith, omega arith, refl, refl)
 
@@ -84,8 +78,7 @@ put-decimal-spec =
     (tie.spec
     Inv-loop
     μ-loop
-    width-requires
-    add-end
+    (search needs) (search needs)
     loop-holds
     sub-place
     digit-requires

@@ -6,16 +6,10 @@ use borrow.Author.Needs.{needs}
 use Rattle.print.proofs.field.put_count.Statement.{statement}
 use Rattle.print.proofs.field.put_count.Tie as tie
 
-put-requires : tie.Need-put-requires
-put-requires c κs = search needs
-
 put-decimal-requires : tie.Need-put-decimal-requires
 put-decimal-requires c κs =
     let short = at-most-20 (c .before .before .before .before .before .before .before .args .n) (omega arith) in
     search needs
-
-same-length : tie.Need-same-length
-same-length c = search needs
 
 returns : tie.Need-returns
 returns c =
@@ -25,4 +19,4 @@ returns c =
     wrote-then (key .put .ensures) (wrote-in short (value .put-decimal .ensures))
 
 pub put-count-spec : {M : Type 1} → statement M
-put-count-spec = tie.close (tie.spec put-requires put-decimal-requires same-length returns)
+put-count-spec = tie.close (tie.spec (search needs) put-decimal-requires (search needs) returns)

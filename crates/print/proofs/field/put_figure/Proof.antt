@@ -4,26 +4,8 @@ use borrow.Author.Needs.{needs}
 use Rattle.print.proofs.field.put_figure.Statement.{statement}
 use Rattle.print.proofs.field.put_figure.Tie as tie
 
-enum-told : tie.Need-enum-told
-enum-told c = search needs
-
-put-none-requires : tie.Need-put-none-requires
-put-none-requires c κs = search needs
-
-enum-known-f : tie.Need-enum-known-f
-enum-known-f c = search needs
-
-put-number-requires : tie.Need-put-number-requires
-put-number-requires c κs = search needs
-
-same-length : tie.Need-same-length
-same-length c = search needs
-
 returns : tie.Need-returns
 returns c = rw (c .before .before .before .before .enum-told .given .1) (c .before .before .put-none .ensures)
-
-same-length-2 : tie.Need-same-length-2
-same-length-2 c = search needs
 
 returns-2 : tie.Need-returns-2
 returns-2 c =
@@ -34,11 +16,7 @@ pub put-figure-spec : {M : Type 1} → statement M
 put-figure-spec =
     tie.close
     (tie.spec
-    enum-told
-    put-none-requires
-    enum-known-f
-    put-number-requires
-    same-length
+    (search needs) (search needs) (search needs) (search needs) (search needs)
     returns
-    same-length-2
+    (search needs)
     returns-2)

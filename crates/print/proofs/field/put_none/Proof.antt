@@ -5,18 +5,6 @@ use borrow.Author.Needs.{needs}
 use Rattle.print.proofs.field.put_none.Statement.{statement}
 use Rattle.print.proofs.field.put_none.Tie as tie
 
-put-requires : tie.Need-put-requires
-put-requires c κs = search needs
-
-slice-aggregate-put : tie.Need-slice-aggregate-put
-slice-aggregate-put c = search needs
-
-put-requires-2 : tie.Need-put-requires-2
-put-requires-2 c κs = search needs
-
-same-length : tie.Need-same-length
-same-length c = search needs
-
 returns : tie.Need-returns
 returns c =
     let value = c .before .before in
@@ -24,5 +12,4 @@ returns c =
     wrote-then (key .put .ensures) (wrote-in (omega arith) (value .put2 .ensures))
 
 pub put-none-spec : {M : Type 1} → statement M
-put-none-spec =
-    tie.close (tie.spec put-requires slice-aggregate-put put-requires-2 same-length returns)
+put-none-spec = tie.close (tie.spec (search needs) (search needs) (search needs) (search needs) returns)

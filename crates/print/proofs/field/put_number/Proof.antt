@@ -5,15 +5,6 @@ use borrow.Author.Needs.{needs}
 use Rattle.print.proofs.field.put_number.Statement.{statement}
 use Rattle.print.proofs.field.put_number.Tie as tie
 
-put-requires : tie.Need-put-requires
-put-requires c κs = search needs
-
-put-signed-requires : tie.Need-put-signed-requires
-put-signed-requires c κs = search needs
-
-same-length : tie.Need-same-length
-same-length c = search needs
-
 returns : tie.Need-returns
 returns c =
     let value = c .before .before in
@@ -21,4 +12,4 @@ returns c =
     wrote-then (key .put .ensures) (rw (toZ-ofZ (key .before .before .before .before .fits .v)) at (value .put-signed .ensures))
 
 pub put-number-spec : {M : Type 1} → statement M
-put-number-spec = tie.close (tie.spec put-requires put-signed-requires same-length returns)
+put-number-spec = tie.close (tie.spec (search needs) (search needs) (search needs) returns)

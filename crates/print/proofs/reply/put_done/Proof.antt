@@ -9,21 +9,6 @@ use borrow.Author.Needs.{needs}
 use Rattle.print.proofs.reply.put_done.Statement.{statement}
 use Rattle.print.proofs.reply.put_done.Tie as tie
 
-put-shown-requires : tie.Need-put-shown-requires
-put-shown-requires c κs = search needs
-
-put-did-requires : tie.Need-put-did-requires
-put-did-requires c κs = search needs
-
-slice-aggregate-put : tie.Need-slice-aggregate-put
-slice-aggregate-put c = search needs
-
-put-requires : tie.Need-put-requires
-put-requires c κs = search needs
-
-same-length : tie.Need-same-length
-same-length c = search needs
-
 returns : tie.Need-returns
 unfolding doneText
 returns c =
@@ -38,9 +23,5 @@ pub put-done-spec : {M : Type 1} → statement M
 put-done-spec =
     tie.close
     (tie.spec
-    put-shown-requires
-    put-did-requires
-    slice-aggregate-put
-    put-requires
-    same-length
+    (search needs) (search needs) (search needs) (search needs) (search needs)
     returns)

@@ -1,36 +1,12 @@
 -- `put_shown`: four fields, one behind the other. Assumes nothing.
 use native.Mathlib.Omega.{arith}
-use Rattle.print.proofs.Put.{wrote-then, wrote-in, wrote-end}
+use Rattle.decimal.specs.Bytes.{bytes}
+use lib.ListN.{drop}
+use Rattle.print.specs.Reply.{shown}
+use Rattle.print.proofs.Parts.{wrote-joined, last, _⨾_}
 use borrow.Author.Needs.{needs}
 use Rattle.print.proofs.reply.put_shown.Statement.{statement}
 use Rattle.print.proofs.reply.put_shown.Tie as tie
-
-slice-aggregate-put-count : tie.Need-slice-aggregate-put-count
-slice-aggregate-put-count c = search needs
-
-put-count-requires : tie.Need-put-count-requires
-put-count-requires c κs = search needs
-
-slice-aggregate-put-count-2 : tie.Need-slice-aggregate-put-count-2
-slice-aggregate-put-count-2 c = search needs
-
-put-count-requires-2 : tie.Need-put-count-requires-2
-put-count-requires-2 c κs = search needs
-
-slice-aggregate-put-count-3 : tie.Need-slice-aggregate-put-count-3
-slice-aggregate-put-count-3 c = search needs
-
-put-count-requires-3 : tie.Need-put-count-requires-3
-put-count-requires-3 c κs = search needs
-
-slice-aggregate-put-count-4 : tie.Need-slice-aggregate-put-count-4
-slice-aggregate-put-count-4 c = search needs
-
-put-count-requires-4 : tie.Need-put-count-requires-4
-put-count-requires-4 c κs = search needs
-
-same-length : tie.Need-same-length
-same-length c = search needs
 
 returns : tie.Need-returns
 returns c =
@@ -38,20 +14,16 @@ returns c =
     let conveyor = sorter .before .before .before .before .before in
     let busy = conveyor .before .before .before .before .before in
     let status = busy .before .before .before .before .before in
-    let w = wrote-then (status .put-count .ensures) (wrote-then (busy .put-count2 .ensures) (wrote-then (conveyor .put-count3 .ensures) (wrote-end (sorter .put-count4 .ensures)))) in
-    wrote-in (omega arith) w
+    let d = status .before .before .before .before .args .d in
+    wrote-joined (bytes " ") _ (drop 1 (shown d)) (status .put-count .ensures) (busy .put-count2 .ensures ⨾ conveyor .put-count3 .ensures ⨾ last (sorter .put-count4 .ensures)) (omega arith)
 
 pub put-shown-spec : {M : Type 1} → statement M
 put-shown-spec =
     tie.close
     (tie.spec
-    slice-aggregate-put-count
-    put-count-requires
-    slice-aggregate-put-count-2
-    put-count-requires-2
-    slice-aggregate-put-count-3
-    put-count-requires-3
-    slice-aggregate-put-count-4
-    put-count-requires-4
-    same-length
+    (search needs) (search needs)
+    (search needs) (search needs)
+    (search needs) (search needs)
+    (search needs) (search needs)
+    (search needs)
     returns)

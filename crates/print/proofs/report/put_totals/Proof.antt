@@ -1,48 +1,27 @@
 -- `put_totals`: three fields, one behind the other. Assumes nothing.
 use native.Mathlib.Omega.{arith}
-use Rattle.print.proofs.Put.{wrote-then, wrote-in, wrote-end}
+use lib.ListN.{drop}
+use Rattle.print.specs.Text.{lineEnd}
+use Rattle.print.specs.Sheet.{totals}
+use Rattle.print.proofs.Parts.{wrote-joined, last, _⨾_}
 use borrow.Author.Needs.{needs}
 use Rattle.print.proofs.report.put_totals.Statement.{statement}
 use Rattle.print.proofs.report.put_totals.Tie as tie
-
-slice-aggregate-put-count : tie.Need-slice-aggregate-put-count
-slice-aggregate-put-count c = search needs
-
-put-count-requires : tie.Need-put-count-requires
-put-count-requires c κs = search needs
-
-slice-aggregate-put-count-2 : tie.Need-slice-aggregate-put-count-2
-slice-aggregate-put-count-2 c = search needs
-
-put-count-requires-2 : tie.Need-put-count-requires-2
-put-count-requires-2 c κs = search needs
-
-slice-aggregate-put-count-3 : tie.Need-slice-aggregate-put-count-3
-slice-aggregate-put-count-3 c = search needs
-
-put-count-requires-3 : tie.Need-put-count-requires-3
-put-count-requires-3 c κs = search needs
-
-same-length : tie.Need-same-length
-same-length c = search needs
 
 returns : tie.Need-returns
 returns c =
     let ng = c .before .before in
     let total = ng .before .before .before .before .before in
     let code = total .before .before .before .before .before in
-    let w = wrote-then (code .put-count .ensures) (wrote-then (total .put-count2 .ensures) (wrote-end (ng .put-count3 .ensures))) in
-    wrote-in (omega arith) w
+    let a = code .before .before .before .before .args in
+    wrote-joined lineEnd _ (drop 1 (totals (a .code) (a .s))) (code .put-count .ensures) (total .put-count2 .ensures ⨾ last (ng .put-count3 .ensures)) (omega arith)
 
 pub put-totals-spec : {M : Type 1} → statement M
 put-totals-spec =
     tie.close
     (tie.spec
-    slice-aggregate-put-count
-    put-count-requires
-    slice-aggregate-put-count-2
-    put-count-requires-2
-    slice-aggregate-put-count-3
-    put-count-requires-3
-    same-length
+    (search needs) (search needs)
+    (search needs) (search needs)
+    (search needs) (search needs)
+    (search needs)
     returns)

@@ -14,30 +14,6 @@ returns c =
     let a = c .before .before .args in
     kept-front sheetRoom (sheetText (a .code) (a .s)) (now (a .out)) (c .if1 .taken)
 
-put-totals-requires : tie.Need-put-totals-requires
-put-totals-requires c κs = search needs
-
-put-grades-requires : tie.Need-put-grades-requires
-put-grades-requires c κs = search needs
-
-put-faults-requires : tie.Need-put-faults-requires
-put-faults-requires c κs = search needs
-
-put-weights-requires : tie.Need-put-weights-requires
-put-weights-requires c κs = search needs
-
-put-spreads-requires : tie.Need-put-spreads-requires
-put-spreads-requires c κs = search needs
-
-slice-aggregate-put : tie.Need-slice-aggregate-put
-slice-aggregate-put c = search needs
-
-put-requires : tie.Need-put-requires
-put-requires c κs = search needs
-
-same-length : tie.Need-same-length
-same-length c = search needs
-
 returns-2 : tie.Need-returns-2
 unfolding sheetText
 returns-2 c =
@@ -59,12 +35,5 @@ sheet-lines-spec =
     tie.close
     (tie.spec
     returns
-    put-totals-requires
-    put-grades-requires
-    put-faults-requires
-    put-weights-requires
-    put-spreads-requires
-    slice-aggregate-put
-    put-requires
-    same-length
+    (search needs) (search needs) (search needs) (search needs) (search needs) (search needs) (search needs) (search needs)
     returns-2)
