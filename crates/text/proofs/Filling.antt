@@ -1,5 +1,5 @@
 -- The values of a line, one behind the other: what holds before each item of the form, and how an item keeps it. Assumes nothing.
-use Prim.Native.Nat.{ℕ, suc, _+_, _≤_, _<_}
+use Prim.Native.Nat.{ℕ, zero, suc, _+_, _≤_, _<_}
 use mathlib.Core.Path.{_≡_, refl, sym, ap, _∙_}
 use mathlib.Core.Bool.{Bool, true, false, not, _&&_}
 use mathlib.Core.List.{List, [], _∷_, _++_, append-assoc, append-nil}
@@ -14,8 +14,8 @@ use Rattle.laws.specs.Choice.{if_then_else_}
 use Rattle.laws.proofs.Tests.{both, by-cases}
 use Rattle.text.specs.Number.{Head, none, some, numberHead, fourHead}
 use Rattle.text.specs.Form.{Item, byte, number, four, Values, other, values, also, andRest, lineValues, valueCount}
-use Rattle.text.specs.Read.{hold, held}
-use Rattle.text.specs.Views.{byteIs, heldHead, found, isLiteral, itemOf, itemsOf, valueHead}
+use Rattle.text.specs.Read.{hold, held, at as value}
+use Rattle.text.specs.Views.{byteIs, heldHead, found, isLiteral, itemOf, itemsOf, valueHead, firsts}
 use Rattle.text.specs.declared.number.Found.{Found}
 use Rattle.text.specs.declared.number.Found.the-variants.{Nothing, Value}
 use Rattle.text.proofs.Heads.{never, cut, Byte}
@@ -120,13 +120,19 @@ module _ {line form : List ℕ} {vs : List ℤ} {count at k : ℕ} (st : State l
         same = rw t (sym (prepend-also (take count vs) v (held (lineValues (itemsOf (drop (k + 1) form)) (drop next line)))) ∙ one-value l (Value v next) e);
       }
 
+firsts-taken : (n : ℕ) (vs : List ℤ) → n ≤ length vs → firsts n (value vs) ≡ take n vs
+firsts-taken zero vs h = refl
+firsts-taken (suc n) [] h = absurd (omega arith)
+firsts-taken (suc n) (v ∷ vs) h = ap (λ (ws : List ℤ). v ∷ ws) (firsts-taken n vs (omega arith))
+
 -- behind the last item the line must end
-module _ {line form : List ℕ} {vs : List ℤ} {count at k : ℕ} (st : State line form vs count at k) (h : length form ≤ k) where
-  pub ended : (if leb (length line) at then values (take (valueCount (itemsOf form)) vs) else other) ≡ held (lineValues (itemsOf form) line)
+module _ {line form : List ℕ} {vs : List ℤ} {count at k : ℕ} (st : State line form vs count at k) (h : length form ≤ k) (few : valueCount (itemsOf form) ≤ 11) where
+  pub ended : (if leb (length line) at then values (firsts (valueCount (itemsOf form)) (value vs)) else other) ≡ held (lineValues (itemsOf form) line)
   ended =
       let n : count + 0 ≡ valueCount (itemsOf form) = rw (drop-of-length-le form h) at (st .left) in
       let m : valueCount (itemsOf form) ≡ count = omega arith in
+      let room : length vs ≡ 11 = st .room in
       by-cases (leb (length line) at)
-      (λ e. rw (e, m) (ap values (sym (append-nil (take count vs)))
+      (λ e. rw (e, m, firsts-taken count vs (omega arith)) (ap values (sym (append-nil (take count vs)))
       ∙ (rw (drop-of-length-le form h, drop-of-length-le line (leb-true (length line) at e)) at (st .same))))
       (λ e. rw e (rw (drop-of-length-le form h, cut line at (leb-false (length line) at e)) at (st .same)))

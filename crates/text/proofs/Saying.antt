@@ -3,7 +3,7 @@ use Prim.Native.Nat.{ℕ, suc}
 use mathlib.Core.Path.{_≡_, refl, sym, ap, _∙_}
 use mathlib.Core.Bool.{Bool, true, false, _&&_}
 use mathlib.Core.List.{List, [], _∷_, map}
-use lib.ListN.{length, getD, take, drop}
+use lib.ListN.{length, getD, drop}
 use lib.IntN.{ℤ}
 use native.Mathlib.Omega.{arith}
 use lib.Dec.{eqb}
@@ -11,8 +11,8 @@ use borrow.Author.Tests.{ne-eqb}
 use Rattle.laws.specs.Choice.{if_then_else_}
 use Rattle.laws.proofs.Tests.{by-cases}
 use Rattle.text.specs.Form.{Item, byte, Values, other, values, lineValues}
-use Rattle.text.specs.Read.{hold, held, Kind, sample, setup, store, report, commands, kinds, says, firstOf}
-use Rattle.text.specs.Views.{reads}
+use Rattle.text.specs.Read.{hold, held, at, Kind, sample, setup, store, report, commands, kinds, says, firstOf}
+use Rattle.text.specs.Views.{reads, firsts}
 use Rattle.text.specs.declared.form.Fields.{Fields}
 use Rattle.text.specs.declared.Read.{Read}
 use Rattle.text.specs.declared.Read.the-variants as read
@@ -20,11 +20,11 @@ use Rattle.text.proofs.Heads.{never}
 
 -- a kind of n values, as `read_form` answers
 module _ (k : Kind) (n : ℕ) (more : List Kind) (s : List ℕ) (r : Fields)
-    (e : (if r .ok then values (take n (r .values)) else other) ≡ held (lineValues (k .form) s)) where
+    (e : (if r .ok then values (firsts n (at (r .values))) else other) ≡ held (lineValues (k .form) s)) where
   pub has-not : r .ok ≡ false → firstOf (k ∷ more) s ≡ firstOf more s
   has-not o = sym (ap (λ (w : Values). says w (k .means) (firstOf more s)) e) ∙ rw o
 
-  pub has : r .ok ≡ true → firstOf (k ∷ more) s ≡ k .means (take n (r .values))
+  pub has : r .ok ≡ true → firstOf (k ∷ more) s ≡ k .means (firsts n (at (r .values)))
   has o = sym (ap (λ (w : Values). says w (k .means) (firstOf more s)) e) ∙ rw o
 
 -- a line that has a form of bytes is as long as it

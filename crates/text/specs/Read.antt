@@ -6,6 +6,9 @@ use lib.Dec.{leb}
 use lib.IntN.{ℤ, pos, negsuc, negℤ}
 use Prim.Native.String.{String}
 use Rattle.laws.specs.Choice.{if_then_else_}
+use Rattle.settings.specs.declared.Settings.{Settings}
+use Rattle.event.specs.declared.Setup.{Setup}
+use Rattle.event.specs.declared.Sample.{Sample}
 use Rattle.event.specs.declared.Event.{Event}
 use Rattle.event.specs.declared.Event.the-variants as event
 use Rattle.text.specs.declared.Read.{Read}
@@ -38,54 +41,49 @@ at vs i = getD vs i (pos 0)
 abbrev pub sizeAt : List ℤ → ℕ → ℕ
 sizeAt vs i = unsignedOf (at vs i)
 
+-- the fields of the example lines, "order as below"
+abbrev pub sampleOf : List ℤ → Sample
+sampleOf v = record { gross = at v 4; sensor = sizeAt v 0; emergency = sizeAt v 1; safety = sizeAt v 2; foreign = sizeAt v 3 }
+
+abbrev pub setupOf : List ℤ → Setup
+setupOf v = record {
+  mode = sizeAt v 0;
+  edge = sizeAt v 1;
+  tc = sizeAt v 2;
+  tw = sizeAt v 3;
+  ta = sizeAt v 4;
+  tf = sizeAt v 5;
+  ts = sizeAt v 6;
+  to = sizeAt v 7;
+  sort = sizeAt v 8;
+  stop = sizeAt v 9;
+  need = sizeAt v 10;
+}
+
+abbrev pub settingsOf : List ℤ → Settings
+settingsOf v = record { target = at v 1; lolo = at v 2; lo = at v 3; hi = at v 4; hihi = at v 5; nearzero = at v 6; tare = at v 7 }
+
 -- a form, and what the values of a line of that form say
 pub record Kind : Type 0 where
   pub form : List Item
   pub means : List ℤ → Read
 
--- the fields of the example lines, "order as below"
 abbrev pub sample : Kind
 sample = record {
   form = fieldsForm ("sensor" ∷ "emergency" ∷ "safety" ∷ "foreign" ∷ "gross" ∷ []);
-  means = λ v. read.Event (event.Sample (record {
-    gross = at v 4;
-    sensor = sizeAt v 0;
-    emergency = sizeAt v 1;
-    safety = sizeAt v 2;
-    foreign = sizeAt v 3;
-  }));
+  means = λ v. read.Event (event.Sample (sampleOf v));
 }
 
 abbrev pub setup : Kind
 setup = record {
   form = fieldsForm ("mode" ∷ "edge" ∷ "tc" ∷ "tw" ∷ "ta" ∷ "tf" ∷ "ts" ∷ "to" ∷ "sort" ∷ "stop" ∷ "need" ∷ []);
-  means = λ v. read.Event (event.Setup (record {
-    mode = sizeAt v 0;
-    edge = sizeAt v 1;
-    tc = sizeAt v 2;
-    tw = sizeAt v 3;
-    ta = sizeAt v 4;
-    tf = sizeAt v 5;
-    ts = sizeAt v 6;
-    to = sizeAt v 7;
-    sort = sizeAt v 8;
-    stop = sizeAt v 9;
-    need = sizeAt v 10;
-  }));
+  means = λ v. read.Event (event.Setup (setupOf v));
 }
 
 abbrev pub store : Kind
 store = record {
   form = fieldsForm ("code" ∷ "target" ∷ "lolo" ∷ "lo" ∷ "hi" ∷ "hihi" ∷ "nearzero" ∷ "tare" ∷ []);
-  means = λ v. read.Event (event.Store (sizeAt v 0) (record {
-    target = at v 1;
-    lolo = at v 2;
-    lo = at v 3;
-    hi = at v 4;
-    hihi = at v 5;
-    nearzero = at v 6;
-    tare = at v 7;
-  }));
+  means = λ v. read.Event (event.Store (sizeAt v 0) (settingsOf v));
 }
 
 abbrev pub report : Kind

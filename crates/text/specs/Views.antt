@@ -1,14 +1,14 @@
 -- The reader's parts in the terms of `Number` and `Form`.
-use Prim.Native.Nat.{ℕ}
+use Prim.Native.Nat.{ℕ, zero, suc}
 use mathlib.Core.Bool.{Bool, true, false, not, _&&_, _||_}
 use mathlib.Core.List.{List, [], _∷_, map}
-use lib.ListN.{drop, take}
+use lib.ListN.{drop}
 use lib.Dec.{eqb}
-use lib.IntN.{pos}
+use lib.IntN.{ℤ, pos}
 use Rattle.laws.specs.Choice.{if_then_else_, within}
 use Rattle.text.specs.Number.{Head, none, some, numberHead, fourDigits, fourNumber, fourHead}
 use Rattle.text.specs.Form.{Item, byte, number, four, Values, other, values, valueCount}
-use Rattle.text.specs.Read.{hold}
+use Rattle.text.specs.Read.{hold, at}
 use Rattle.text.specs.declared.number.Found.{Found}
 use Rattle.text.specs.declared.number.Found.the-variants.{Nothing, Value}
 use Rattle.text.specs.declared.form.Fields.{Fields}
@@ -47,9 +47,14 @@ itemsOf form = map itemOf form
 abbrev pub valueHead : ℕ → List ℕ → Head
 valueHead b s = if eqb b 35 then numberHead s else fourHead s
 
+-- the first n values, each by its place
+abbrev pub firsts : ℕ → (ℕ → ℤ) → List ℤ
+firsts zero value = []
+firsts (suc n) value = value 0 ∷ firsts n (λ i. value (suc i))
+
 -- the values that the reader gives for a form
 abbrev pub fieldsValues : List ℕ → Fields → Values
-fieldsValues form r = if r .ok then values (take (valueCount (itemsOf form)) (r .values)) else other
+fieldsValues form r = if r .ok then values (firsts (valueCount (itemsOf form)) (at (r .values))) else other
 
 abbrev pub reads : Values → Bool
 reads other = false

@@ -2,6 +2,7 @@
 use event::Event;
 
 mod form;
+mod meaning;
 mod number;
 mod quick;
 mod reader;

@@ -7,12 +7,12 @@ ghost use Rattle.text.specs.Views.{reads};
 use crate::LONGEST_LINE;
 use crate::Read;
 use crate::form::read_form;
-use crate::number::unsigned_of;
+use crate::meaning::sample_of;
+use crate::meaning::settings_of;
+use crate::meaning::setup_of;
+use crate::meaning::size_at;
 use crate::quick::quick_sample;
 use event::Event;
-use event::Sample;
-use event::Setup;
-use settings::Settings;
 
 // Most lines are samples that `quick_sample` reads; its answer is the form's.
 fn read_sample(line: &[u8]) -> Read
@@ -33,13 +33,7 @@ fn sample_by_form(line: &[u8]) -> Read
         return Read::Other;
     }
     let v = r.values;
-    Read::Event(Event::Sample(Sample {
-        gross: v[4],
-        sensor: unsigned_of(v[0]),
-        emergency: unsigned_of(v[1]),
-        safety: unsigned_of(v[2]),
-        foreign: unsigned_of(v[3]),
-    }))
+    Read::Event(Event::Sample(sample_of(&v)))
 }
 
 fn read_setup(line: &[u8]) -> Read
@@ -53,19 +47,7 @@ fn read_setup(line: &[u8]) -> Read
         return Read::Other;
     }
     let v = r.values;
-    Read::Event(Event::Setup(Setup {
-        mode: unsigned_of(v[0]),
-        edge: unsigned_of(v[1]),
-        tc: unsigned_of(v[2]),
-        tw: unsigned_of(v[3]),
-        ta: unsigned_of(v[4]),
-        tf: unsigned_of(v[5]),
-        ts: unsigned_of(v[6]),
-        to: unsigned_of(v[7]),
-        sort: unsigned_of(v[8]),
-        stop: unsigned_of(v[9]),
-        need: unsigned_of(v[10]),
-    }))
+    Read::Event(Event::Setup(setup_of(&v)))
 }
 
 fn read_store(line: &[u8]) -> Read
@@ -79,18 +61,7 @@ fn read_store(line: &[u8]) -> Read
         return Read::Other;
     }
     let v = r.values;
-    Read::Event(Event::Store(
-        unsigned_of(v[0]),
-        Settings {
-            target: v[1],
-            lolo: v[2],
-            lo: v[3],
-            hi: v[4],
-            hihi: v[5],
-            nearzero: v[6],
-            tare: v[7],
-        },
-    ))
+    Read::Event(Event::Store(size_at(&v, 0), settings_of(&v)))
 }
 
 fn read_report(line: &[u8]) -> Read
@@ -101,7 +72,7 @@ fn read_report(line: &[u8]) -> Read
         return Read::Other;
     }
     let v = r.values;
-    Read::Report(unsigned_of(v[0]))
+    Read::Report(size_at(&v, 0))
 }
 
 fn read_coded(line: &[u8]) -> Read
@@ -110,12 +81,12 @@ fn read_coded(line: &[u8]) -> Read
     let recall = read_form(line, b"CCOD$");
     if recall.ok {
         let v = recall.values;
-        return Read::Event(Event::Recall(unsigned_of(v[0])));
+        return Read::Event(Event::Recall(size_at(&v, 0)));
     }
     let clear = read_form(line, b"CDTL$");
     if clear.ok {
         let v = clear.values;
-        return Read::Event(Event::ClearCode(unsigned_of(v[0])));
+        return Read::Event(Event::ClearCode(size_at(&v, 0)));
     }
     Read::Other
 }

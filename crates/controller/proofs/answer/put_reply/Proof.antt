@@ -15,18 +15,6 @@ returns c =
     let p = past (a .at) (replyAnswer (a .r)) (a .out .now) refl (omega (arith, c .if1 .taken)) in
     (p .ends, p .output)
 
-sub-reply-line : tie.Need-sub-reply-line
-sub-reply-line c = search needs
-
-part-reply-line-start : tie.Need-part-reply-line-start
-part-reply-line-start c = search needs
-
-part-reply-line-end : tie.Need-part-reply-line-end
-part-reply-line-end c = search needs
-
-reply-line-requires : tie.Need-reply-line-requires
-reply-line-requires c κs = search needs
-
 -- what is written lies within the buffer, which the machine can address
 add-result : tie.Need-add-result
 add-result c =
@@ -35,9 +23,6 @@ add-result c =
     let h = fits (a .at) (replyAnswer (a .r)) (a .out .now) (w .last .0) (w .result) (omega (arith, c .before .before .before .before .if1 .left)) (w .ensures .0) (w .ensures .1) (c .before .out .given .0) in
     let k : length (a .out .now) < 2 ^ 64 = search needs in
     record { fits = omega (arith, h, k) }
-
-same-length : tie.Need-same-length
-same-length c = search needs
 
 returns-2 : tie.Need-returns-2
 returns-2 c =
@@ -51,10 +36,7 @@ put-reply-spec =
     tie.close
     (tie.spec
     returns
-    sub-reply-line
-    part-reply-line-start
-    part-reply-line-end
-    reply-line-requires
+    (search needs) (search needs) (search needs) (search needs)
     add-result
-    same-length
+    (search needs)
     returns-2)

@@ -15,18 +15,6 @@ returns c =
     let p = past (a .at) (sheetAnswer (a .code) (a .s)) (a .out .now) refl (omega (arith, c .if1 .taken)) in
     (p .ends, p .output)
 
-sub-sheet-lines : tie.Need-sub-sheet-lines
-sub-sheet-lines c = search needs
-
-part-sheet-lines-start : tie.Need-part-sheet-lines-start
-part-sheet-lines-start c = search needs
-
-part-sheet-lines-end : tie.Need-part-sheet-lines-end
-part-sheet-lines-end c = search needs
-
-sheet-lines-requires : tie.Need-sheet-lines-requires
-sheet-lines-requires c κs = search needs
-
 -- what is written lies within the buffer, which the machine can address
 add-result : tie.Need-add-result
 add-result c =
@@ -35,9 +23,6 @@ add-result c =
     let h = fits (a .at) (sheetAnswer (a .code) (a .s)) (a .out .now) (w .last .0) (w .result) (omega (arith, c .before .before .before .before .if1 .left)) (w .ensures .0) (w .ensures .1) (c .before .out .given .0) in
     let k : length (a .out .now) < 2 ^ 64 = search needs in
     record { fits = omega (arith, h, k) }
-
-same-length : tie.Need-same-length
-same-length c = search needs
 
 returns-2 : tie.Need-returns-2
 returns-2 c =
@@ -51,10 +36,7 @@ put-sheet-spec =
     tie.close
     (tie.spec
     returns
-    sub-sheet-lines
-    part-sheet-lines-start
-    part-sheet-lines-end
-    sheet-lines-requires
+    (search needs) (search needs) (search needs) (search needs)
     add-result
-    same-length
+    (search needs)
     returns-2)

@@ -54,12 +54,6 @@ add-at c =
 read-value-requires : tie.Need-read-value-requires Inv-loop μ-loop
 read-value-requires c κs = tt
 
-enum-known-value : tie.Need-enum-known-value Inv-loop μ-loop
-enum-known-value c = search needs
-
-enum-told : tie.Need-enum-told Inv-loop μ-loop
-enum-told c = search needs
-
 returns-2 : tie.Need-returns-2 Inv-loop μ-loop
 returns-2 c =
     let i = c .before .before .before .before in
@@ -82,12 +76,6 @@ array-set-from-values c = room c
 add-count : tie.Need-add-count Inv-loop μ-loop
 add-count c = let r = room c in record { fits = omega arith }
 
-add-k : tie.Need-add-k Inv-loop μ-loop
-add-k c = search needs
-
-loop-less : tie.Need-loop-less Inv-loop μ-loop
-loop-less c = search needs
-
 loop-again : tie.Need-loop-again Inv-loop μ-loop
 loop-again c =
     let i = c .before in
@@ -102,7 +90,7 @@ loop-again c =
     (c .if1 .came)
 
 returns-3 : tie.Need-returns-3 Inv-loop μ-loop
-returns-3 c = ended (c .before .loop .inv) (c .loop-test .left)
+returns-3 c = ended (c .before .loop .inv) (c .loop-test .left) (c .before .before .before .before .pre)
 
 pub read-form-spec : {M : Type 1} → statement M
 read-form-spec =
@@ -117,13 +105,11 @@ read-form-spec =
     returns
     add-at
     read-value-requires
-    enum-known-value
-    enum-told
+    (search needs) (search needs)
     returns-2
     mul-values
     array-set-from-values
     add-count
-    add-k
-    loop-less
+    (search needs) (search needs)
     loop-again
     returns-3)

@@ -4,17 +4,11 @@ use borrow.Author.Tests.{eq-eqb, ne-eqb}
 use Rattle.text.proofs.form.read_value.Statement.{statement}
 use Rattle.text.proofs.form.read_value.Tie as tie
 
-read-number-requires : tie.Need-read-number-requires
-read-number-requires c κs = search needs
-
 returns : tie.Need-returns
 returns c = rw (eq-eqb _ _ (c .before .if1 .taken)) (c .read-number .ensures)
-
-read-four-requires : tie.Need-read-four-requires
-read-four-requires c κs = search needs
 
 returns-2 : tie.Need-returns-2
 returns-2 c = rw (ne-eqb _ _ (c .before .if1 .left)) (c .read-four .ensures)
 
 pub read-value-spec : {M : Type 1} → statement M
-read-value-spec = tie.close (tie.spec read-number-requires returns read-four-requires returns-2)
+read-value-spec = tie.close (tie.spec (search needs) returns (search needs) returns-2)

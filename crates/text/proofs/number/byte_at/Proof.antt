@@ -8,11 +8,8 @@ use Rattle.text.proofs.number.byte_at.Tie as tie
 returns : tie.Need-returns
 returns c = let a = c .before .args in byte-end (a .c) (now (a .line)) (a .at) (c .if1 .taken)
 
-shared-slice-read-result : tie.Need-shared-slice-read-result
-shared-slice-read-result c = search needs
-
 returns-2 : tie.Need-returns-2
 returns-2 c = let a = c .before .before .args in rw (cut (now (a .line)) (a .at) (c .before .if1 .left))
 
 pub byte-at-spec : {M : Type 1} → statement M
-byte-at-spec = tie.close (tie.spec returns shared-slice-read-result returns-2)
+byte-at-spec = tie.close (tie.spec returns (search needs) returns-2)

@@ -11,18 +11,6 @@ use borrow.Author.Needs.{needs}
 use Rattle.text.proofs.number.four_of.Statement.{statement}
 use Rattle.text.proofs.number.four_of.Tie as tie
 
-is-digit-requires : tie.Need-is-digit-requires
-is-digit-requires c κs = search needs
-
-is-digit-requires-2 : tie.Need-is-digit-requires-2
-is-digit-requires-2 c κs = search needs
-
-is-digit-requires-3 : tie.Need-is-digit-requires-3
-is-digit-requires-3 c κs = search needs
-
-is-digit-requires-4 : tie.Need-is-digit-requires-4
-is-digit-requires-4 c κs = search needs
-
 -- what the test says of the four
 tested : (c : tie.After-is-digit4) {t : Bool}
     → c .before .before .before .is-digit .result && (c .before .before .is-digit2 .result && (c .before .is-digit3 .result && c .is-digit4 .result)) ≡ t
@@ -40,47 +28,14 @@ returns c = simp (tested (c .before) (not-true _ (c .if1 .taken)))
 sub-wide : tie.Need-sub-wide
 sub-wide c = bounds c .first .0
 
-wide-requires : tie.Need-wide-requires
-wide-requires c κs = search needs
-
-mul-n : tie.Need-mul-n
-mul-n c = search needs
-
 sub-wide-2 : tie.Need-sub-wide-2
 sub-wide-2 c = bounds (c .before) .second .0
-
-wide-requires-2 : tie.Need-wide-requires-2
-wide-requires-2 c κs = search needs
-
-mul-n-2 : tie.Need-mul-n-2
-mul-n-2 c = search needs
-
-add-n : tie.Need-add-n
-add-n c = search needs
 
 sub-wide-3 : tie.Need-sub-wide-3
 sub-wide-3 c = bounds (c .before .before) .third .0
 
-wide-requires-3 : tie.Need-wide-requires-3
-wide-requires-3 c κs = search needs
-
-mul-n-3 : tie.Need-mul-n-3
-mul-n-3 c = search needs
-
-add-n-2 : tie.Need-add-n-2
-add-n-2 c = search needs
-
 sub-wide-4 : tie.Need-sub-wide-4
 sub-wide-4 c = bounds (c .before .before .before) .fourth .0
-
-wide-requires-4 : tie.Need-wide-requires-4
-wide-requires-4 c κs = search needs
-
-add-n-3 : tie.Need-add-n-3
-add-n-3 c = search needs
-
-cast-t27 : tie.Need-cast-t27
-cast-t27 c = search needs
 
 returns-2 : tie.Need-returns-2
 returns-2 c =
@@ -98,24 +53,14 @@ pub four-of-spec : {M : Type 1} → statement M
 four-of-spec =
     tie.close
     (tie.spec
-    is-digit-requires
-    is-digit-requires-2
-    is-digit-requires-3
-    is-digit-requires-4
+    (search needs) (search needs) (search needs) (search needs)
     returns
     sub-wide
-    wide-requires
-    mul-n
+    (search needs) (search needs)
     sub-wide-2
-    wide-requires-2
-    mul-n-2
-    add-n
+    (search needs) (search needs) (search needs)
     sub-wide-3
-    wide-requires-3
-    mul-n-3
-    add-n-2
+    (search needs) (search needs) (search needs)
     sub-wide-4
-    wide-requires-4
-    add-n-3
-    cast-t27
+    (search needs) (search needs) (search needs)
     returns-2)

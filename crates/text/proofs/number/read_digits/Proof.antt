@@ -28,9 +28,6 @@ loop-holds c = (refl, c .before .pre)
 digit-at-requires : tie.Need-digit-at-requires Inv-loop μ-loop
 digit-at-requires c κs = tt
 
-mul-hold : tie.Need-mul-hold Inv-loop μ-loop
-mul-hold c = search needs
-
 shared-slice-read-wide : tie.Need-shared-slice-read-wide Inv-loop μ-loop
 shared-slice-read-wide c = digit (c .before) .inside
 
@@ -78,7 +75,7 @@ read-digits-spec =
     μ-loop
     loop-holds
     digit-at-requires
-    mul-hold
+    (search needs)
     shared-slice-read-wide
     sub-wide
     wide-requires

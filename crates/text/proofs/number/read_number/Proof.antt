@@ -7,9 +7,6 @@ use Rattle.text.proofs.Heads.{Byte, byte-here, number-zero, number-minu
 use Rattle.text.proofs.number.read_number.Statement.{statement}
 use Rattle.text.proofs.number.read_number.Tie as tie
 
-byte-at-requires : tie.Need-byte-at-requires
-byte-at-requires c κs = search needs
-
 zero : (c : tie.Then1) → Byte 48 (now (c .before .before .before .args .line)) (c .before .before .before .args .at)
 zero c = byte-here 48 _ _ (sym (c .before .byte-at .ensures) ∙ c .if1 .taken)
 
@@ -19,23 +16,14 @@ add-t4 c = let h = zero c .inside in search needs
 returns : tie.Need-returns
 returns c = number-zero _ _ (zero c)
 
-byte-at-requires-2 : tie.Need-byte-at-requires-2
-byte-at-requires-2 c κs = search needs
-
 minus : (c : tie.Then2) → Byte 45 (now (c .before .before .before .before .before .args .line)) (c .before .before .before .before .before .args .at)
 minus c = byte-here 45 _ _ (sym (c .before .byte-at2 .ensures) ∙ c .if2 .taken)
 
 add-read-positive : tie.Need-add-read-positive
 add-read-positive c = let h = minus c .inside in search needs
 
-read-positive-requires : tie.Need-read-positive-requires
-read-positive-requires c κs = search needs
-
 returns-2 : tie.Need-returns-2
 returns-2 c = c .read-positive .ensures ∙ number-minus _ _ (minus (c .before))
-
-read-positive-requires-2 : tie.Need-read-positive-requires-2
-read-positive-requires-2 c κs = search needs
 
 returns-3 : tie.Need-returns-3
 returns-3 c =
@@ -48,12 +36,12 @@ pub read-number-spec : {M : Type 1} → statement M
 read-number-spec =
     tie.close
     (tie.spec
-    byte-at-requires
+    (search needs)
     add-t4
     returns
-    byte-at-requires-2
+    (search needs)
     add-read-positive
-    read-positive-requires
+    (search needs)
     returns-2
-    read-positive-requires-2
+    (search needs)
     returns-3)

@@ -10,9 +10,6 @@ use Rattle.text.proofs.Heads.{Digit, digit-here, positive-none, positiv
 use Rattle.text.proofs.number.read_positive.Statement.{statement}
 use Rattle.text.proofs.number.read_positive.Tie as tie
 
-digit-at-requires : tie.Need-digit-at-requires
-digit-at-requires c κs = search needs
-
 returns : tie.Need-returns
 returns c =
     let a = c .before .before .before .args in
@@ -30,9 +27,6 @@ shared-slice-read-wide c = digit (c .before) .inside
 sub-wide : tie.Need-sub-wide
 sub-wide c = let d = digit (c .before) in omega arith
 
-wide-requires : tie.Need-wide-requires
-wide-requires c κs = search needs
-
 read-digits-requires : tie.Need-read-digits-requires
 read-digits-requires c κs = let d = digit (c .before .before) in omega arith
 
@@ -47,11 +41,11 @@ pub read-positive-spec : {M : Type 1} → statement M
 read-positive-spec =
     tie.close
     (tie.spec
-    digit-at-requires
+    (search needs)
     returns
     add-read-digits
     shared-slice-read-wide
     sub-wide
-    wide-requires
+    (search needs)
     read-digits-requires
     returns-2)

@@ -8,9 +8,6 @@ use Rattle.laws.proofs.Signed.{toZ-small, neg-fits}
 use Rattle.text.proofs.number.with_sign.Statement.{statement}
 use Rattle.text.proofs.number.with_sign.Tie as tie
 
-cast-x : tie.Need-cast-x
-cast-x c = search needs
-
 small : (c : tie.Then1) → c .before .args .n < 2 ^ 63
 small c = omega (arith, c .before .pre)
 
@@ -26,4 +23,4 @@ returns-2 : tie.Need-returns-2
 returns-2 c = rw (toZ-small (c .before .args .n) (omega (arith, c .before .pre)), c .if1 .left)
 
 pub with-sign-spec : {M : Type 1} → statement M
-with-sign-spec = tie.close (tie.spec cast-x sub-result returns returns-2)
+with-sign-spec = tie.close (tie.spec (search needs) sub-result returns returns-2)

@@ -3,30 +3,6 @@ use borrow.Author.Needs.{needs}
 use Rattle.text.proofs.quick.is_head.Statement.{statement}
 use Rattle.text.proofs.quick.is_head.Tie as tie
 
-slice-aggregate-key-at : tie.Need-slice-aggregate-key-at
-slice-aggregate-key-at c = search needs
-
-key-at-requires : tie.Need-key-at-requires
-key-at-requires c κs = search needs
-
-level-at-requires : tie.Need-level-at-requires
-level-at-requires c κs = search needs
-
-slice-aggregate-key-at-2 : tie.Need-slice-aggregate-key-at-2
-slice-aggregate-key-at-2 c = search needs
-
-key-at-requires-2 : tie.Need-key-at-requires-2
-key-at-requires-2 c κs = search needs
-
-level-at-requires-2 : tie.Need-level-at-requires-2
-level-at-requires-2 c κs = search needs
-
-slice-aggregate-key-at-3 : tie.Need-slice-aggregate-key-at-3
-slice-aggregate-key-at-3 c = search needs
-
-key-at-requires-3 : tie.Need-key-at-requires-3
-key-at-requires-3 c κs = search needs
-
 returns : tie.Need-returns
 returns c = simp (c .key-at3 .ensures, c .before .before .level-at2 .ensures, c .before .before .before .key-at2 .ensures, c .before .before .before .before .before .level-at .ensures, c .before .before .before .before .before .before .key-at .ensures)
 
@@ -34,12 +10,5 @@ pub is-head-spec : {M : Type 1} → statement M
 is-head-spec =
     tie.close
     (tie.spec
-    slice-aggregate-key-at
-    key-at-requires
-    level-at-requires
-    slice-aggregate-key-at-2
-    key-at-requires-2
-    level-at-requires-2
-    slice-aggregate-key-at-3
-    key-at-requires-3
+    (search needs) (search needs) (search needs) (search needs) (search needs) (search needs) (search needs) (search needs)
     returns)

@@ -22,9 +22,6 @@ returns : tie.Need-returns Inv-loop μ-loop
 returns c =
     let a = c .before .args in short-at (now (a .key)) (now (a .line)) (a .at) (omega arith) (c .before .pre)
 
-sub-if2 : tie.Need-sub-if2 Inv-loop μ-loop
-sub-if2 c = search needs
-
 returns-2 : tie.Need-returns-2 Inv-loop μ-loop
 returns-2 c =
     let a = c .before .before .args in short-at (now (a .key)) (now (a .line)) (a .at) (omega arith) (c .before .before .pre)
@@ -42,15 +39,6 @@ add-same c =
 
 shared-slice-read-same : tie.Need-shared-slice-read-same Inv-loop μ-loop
 shared-slice-read-same c = omega arith
-
-shared-slice-read-same-2 : tie.Need-shared-slice-read-same-2 Inv-loop μ-loop
-shared-slice-read-same-2 c = search needs
-
-add-j : tie.Need-add-j Inv-loop μ-loop
-add-j c = search needs
-
-loop-less : tie.Need-loop-less Inv-loop μ-loop
-loop-less c = search needs
 
 loop-again : tie.Need-loop-again Inv-loop μ-loop
 loop-again c =
@@ -71,13 +59,11 @@ key-at-spec =
     Inv-loop
     μ-loop
     returns
-    sub-if2
+    (search needs)
     returns-2
     loop-holds
     add-same
     shared-slice-read-same
-    shared-slice-read-same-2
-    add-j
-    loop-less
+    (search needs) (search needs) (search needs)
     loop-again
     returns-3)

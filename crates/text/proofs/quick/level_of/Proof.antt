@@ -12,11 +12,5 @@ shared-slice-read-wide c = level-here _ _ (c .before .before .pre) .inside
 sub-wide : tie.Need-sub-wide
 sub-wide c = let l = level-here (now (c .before .before .args .line)) (c .before .before .args .at) (c .before .before .pre) in l .least
 
-wide-requires : tie.Need-wide-requires
-wide-requires c κs = search needs
-
-returns : tie.Need-returns
-returns c = search needs
-
 pub level-of-spec : {M : Type 1} → statement M
-level-of-spec = tie.close (tie.spec shared-slice-read-wide sub-wide wide-requires returns)
+level-of-spec = tie.close (tie.spec shared-slice-read-wide sub-wide (search needs) (search needs))

@@ -11,20 +11,8 @@ use Rattle.text.proofs.Keys.{head-levels, middle-level, quick-law, from
 use Rattle.text.proofs.quick.quick_sample.Statement.{statement}
 use Rattle.text.proofs.quick.quick_sample.Tie as tie
 
-is-head-requires : tie.Need-is-head-requires
-is-head-requires c κs = search needs
-
 returns : tie.Need-returns
 returns c = inl refl
-
-read-number-requires : tie.Need-read-number-requires
-read-number-requires c κs = search needs
-
-enum-known-safety : tie.Need-enum-known-safety
-enum-known-safety c = search needs
-
-enum-told : tie.Need-enum-told
-enum-told c = search needs
 
 returns-2 : tie.Need-returns-2
 returns-2 c = inl refl
@@ -32,29 +20,8 @@ returns-2 c = inl refl
 returns-3 : tie.Need-returns-3
 returns-3 c = inl refl
 
-sub-rest : tie.Need-sub-rest
-sub-rest c = search needs
-
-part-rest-start : tie.Need-part-rest-start
-part-rest-start c = search needs
-
-part-rest-end : tie.Need-part-rest-end
-part-rest-end c = search needs
-
-is-middle-requires : tie.Need-is-middle-requires
-is-middle-requires c κs = search needs
-
 returns-4 : tie.Need-returns-4
 returns-4 c = inl refl
-
-read-number-requires-2 : tie.Need-read-number-requires-2
-read-number-requires-2 c κs = search needs
-
-enum-known-gross : tie.Need-enum-known-gross
-enum-known-gross c = search needs
-
-enum-told-2 : tie.Need-enum-told-2
-enum-told-2 c = search needs
 
 returns-5 : tie.Need-returns-5
 returns-5 c = inl refl
@@ -67,9 +34,6 @@ level-of-requires c κs = head-levels (now (c .before .before .before .before .b
 
 level-of-requires-2 : tie.Need-level-of-requires-2
 level-of-requires-2 c κs = head-levels (now (c .before .before .before .before .before .before .before .before .before .before .before .before .before .before .before .before .before .args .line)) (sym (c .before .before .before .before .before .before .before .before .before .before .before .before .before .before .before .is-head .ensures) ∙ not-false _ (c .before .before .before .before .before .before .before .before .before .before .before .before .before .before .if1 .left)) .1
-
-unsigned-of-requires : tie.Need-unsigned-of-requires
-unsigned-of-requires c κs = search needs
 
 level-of-requires-3 : tie.Need-level-of-requires-3
 level-of-requires-3 c κs =
@@ -100,25 +64,18 @@ pub quick-sample-spec : {M : Type 1} → statement M
 quick-sample-spec =
     tie.close
     (tie.spec
-    is-head-requires
+    (search needs)
     returns
-    read-number-requires
-    enum-known-safety
-    enum-told
+    (search needs) (search needs) (search needs)
     returns-2
     returns-3
-    sub-rest
-    part-rest-start
-    part-rest-end
-    is-middle-requires
+    (search needs) (search needs) (search needs) (search needs)
     returns-4
-    read-number-requires-2
-    enum-known-gross
-    enum-told-2
+    (search needs) (search needs) (search needs)
     returns-5
     returns-6
     level-of-requires
     level-of-requires-2
-    unsigned-of-requires
+    (search needs)
     level-of-requires-3
     returns-7)

@@ -9,18 +9,6 @@ use Rattle.text.proofs.reader.is_word.Tie as tie
 returns : tie.Need-returns
 returns c = let a = c .before .args in word-other (a .a ∷ a .b ∷ a .c ∷ a .d ∷ []) (now (a .line)) (c .if1 .taken)
 
-shared-slice-read-result : tie.Need-shared-slice-read-result
-shared-slice-read-result c = search needs
-
-shared-slice-read-result-2 : tie.Need-shared-slice-read-result-2
-shared-slice-read-result-2 c = search needs
-
-shared-slice-read-result-3 : tie.Need-shared-slice-read-result-3
-shared-slice-read-result-3 c = search needs
-
-shared-slice-read-result-4 : tie.Need-shared-slice-read-result-4
-shared-slice-read-result-4 c = search needs
-
 returns-2 : tie.Need-returns-2
 returns-2 c =
     let a = c .before .before .before .before .before .args in
@@ -31,8 +19,5 @@ is-word-spec =
     tie.close
     (tie.spec
     returns
-    shared-slice-read-result
-    shared-slice-read-result-2
-    shared-slice-read-result-3
-    shared-slice-read-result-4
+    (search needs) (search needs) (search needs) (search needs)
     returns-2)

@@ -17,24 +17,6 @@ returns-2 c =
     let s = now (c .before .before .before .args .line) in
     rw (le-leb (length s) longestLine (c .before .if1 .left)) (empty s (c .if2 .taken))
 
-shared-slice-read-match : tie.Need-shared-slice-read-match
-shared-slice-read-match c = search needs
-
-read-sample-requires : tie.Need-read-sample-requires
-read-sample-requires c κs = search needs
-
-read-setup-requires : tie.Need-read-setup-requires
-read-setup-requires c κs = search needs
-
-read-store-requires : tie.Need-read-store-requires
-read-store-requires c κs = search needs
-
-read-report-requires : tie.Need-read-report-requires
-read-report-requires c κs = search needs
-
-read-command-requires : tie.Need-read-command-requires
-read-command-requires c κs = search needs
-
 returns-3 : tie.Need-returns-3
 returns-3 c =
     let s = now (c .before .before .before .before .before .before .args .line) in
@@ -72,12 +54,7 @@ read-line-spec =
     (tie.spec
     returns
     returns-2
-    shared-slice-read-match
-    read-sample-requires
-    read-setup-requires
-    read-store-requires
-    read-report-requires
-    read-command-requires
+    (search needs) (search needs) (search needs) (search needs) (search needs) (search needs)
     returns-3
     returns-4
     returns-5

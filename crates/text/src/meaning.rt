@@ -1,0 +1,64 @@
+// What the values of a line say.
+ghost use mathlib.Core.Path.{_≡_};
+ghost use Prim.Native.Nat.{_<_};
+ghost use lib.ListN.{length};
+ghost use Rattle.text.specs.Read.{sizeAt, sampleOf, setupOf, settingsOf};
+use crate::number::unsigned_of;
+use event::Sample;
+use event::Setup;
+use settings::Settings;
+
+// Value i, for a field that is never negative.
+pub(crate) fn size_at(v: &[i64], i: usize) -> u64
+    requires { ⌜ i < length (now v) ⌝ }
+    ensures { λ r. ⌜ r ≡ sizeAt (now (v .entry)) i ⌝ }
+{
+    unsigned_of(v[i])
+}
+
+pub(crate) fn sample_of(v: &[i64]) -> Sample
+    requires { ⌜ 4 < length (now v) ⌝ }
+    ensures { λ r. ⌜ r ≡ sampleOf (now (v .entry)) ⌝ }
+{
+    Sample {
+        gross: v[4],
+        sensor: size_at(v, 0),
+        emergency: size_at(v, 1),
+        safety: size_at(v, 2),
+        foreign: size_at(v, 3),
+    }
+}
+
+pub(crate) fn setup_of(v: &[i64]) -> Setup
+    requires { ⌜ 10 < length (now v) ⌝ }
+    ensures { λ r. ⌜ r ≡ setupOf (now (v .entry)) ⌝ }
+{
+    Setup {
+        mode: size_at(v, 0),
+        edge: size_at(v, 1),
+        tc: size_at(v, 2),
+        tw: size_at(v, 3),
+        ta: size_at(v, 4),
+        tf: size_at(v, 5),
+        ts: size_at(v, 6),
+        to: size_at(v, 7),
+        sort: size_at(v, 8),
+        stop: size_at(v, 9),
+        need: size_at(v, 10),
+    }
+}
+
+pub(crate) fn settings_of(v: &[i64]) -> Settings
+    requires { ⌜ 7 < length (now v) ⌝ }
+    ensures { λ r. ⌜ r ≡ settingsOf (now (v .entry)) ⌝ }
+{
+    Settings {
+        target: v[1],
+        lolo: v[2],
+        lo: v[3],
+        hi: v[4],
+        hihi: v[5],
+        nearzero: v[6],
+        tare: v[7],
+    }
+}
