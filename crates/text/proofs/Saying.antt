@@ -1,17 +1,19 @@
 -- What the values that were read say of a line, and which kinds its first byte leaves. Assumes nothing.
-use Prim.Native.Nat.{ℕ, suc}
+use Prim.Native.Nat.{ℕ, suc, _+_}
+use Prim.Native.String.{String}
 use mathlib.Core.Path.{_≡_, refl, sym, ap, _∙_}
 use mathlib.Core.Bool.{Bool, true, false, _&&_}
 use mathlib.Core.List.{List, [], _∷_, map}
 use lib.ListN.{length, getD, drop}
-use lib.IntN.{ℤ}
+use lib.Seq.{drop-drop}
 use native.Mathlib.Omega.{arith}
 use lib.Dec.{eqb}
 use borrow.Author.Tests.{ne-eqb}
 use Rattle.laws.specs.Choice.{if_then_else_}
 use Rattle.laws.proofs.Tests.{by-cases}
-use Rattle.text.specs.Form.{Item, byte, Values, other, values, lineValues}
-use Rattle.text.specs.Read.{hold, held, at, Kind, sample, setup, store, report, commands, kinds, says, firstOf}
+use Rattle.event.specs.declared.Event.{Event}
+use Rattle.text.specs.Form.{Item, byte, wordItems, Values, other, values, lineValues}
+use Rattle.text.specs.Read.{held, at, Kind, command, sample, setup, store, report, commands, kinds, says, firstOf}
 use Rattle.text.specs.Views.{reads, firsts}
 use Rattle.text.specs.declared.form.Fields.{Fields}
 use Rattle.text.specs.declared.Read.{Read}
@@ -58,20 +60,16 @@ word-reads (w ∷ x ∷ y ∷ z ∷ []) a b c d h = go (eqb w a) (eqb x b) (eqb 
     go false q r t = refl
 word-reads (w ∷ x ∷ y ∷ z ∷ e ∷ s) a b c d h = absurd (omega arith)
 
--- the first of the kinds, where it is a command, which means the same for all values
+-- the line is none of the first n commands
+abbrev pub Past : ℕ → List ℕ → Type 0
+Past n s = firstOf commands s ≡ firstOf (drop n commands) s
+
+-- the form of the first kind
 abbrev pub firstForm : List Kind → List Item
 firstForm [] = []
 firstForm (k ∷ more) = k .form
 
-pub is-first : (k : Kind) (more : List Kind) (s : List ℕ) (e : Read) → ((vs : List ℤ) → k .means vs ≡ e)
-    → reads (lineValues (k .form) s) ≡ true → firstOf (k ∷ more) s ≡ e
-is-first k more s e same h = go (lineValues (k .form) s) h
-  where
-    go : (w : Values) → reads w ≡ true → says (held w) (k .means) (firstOf more s) ≡ e
-    go other h = never h
-    go (values vs) h = same (map hold vs)
-
-pub not-first : (ks : List Kind) (s : List ℕ) → reads (lineValues (firstForm ks) s) ≡ false → firstOf ks s ≡ firstOf (drop 1 ks) s
+not-first : (ks : List Kind) (s : List ℕ) → reads (lineValues (firstForm ks) s) ≡ false → firstOf ks s ≡ firstOf (drop 1 ks) s
 not-first [] s h = refl
 not-first (k ∷ more) s h = go (lineValues (k .form) s) h
   where
@@ -79,30 +77,28 @@ not-first (k ∷ more) s h = go (lineValues (k .form) s) h
     go other h = refl
     go (values vs) h = never (sym h)
 
+-- nor the next one
+pub missed : (n : ℕ) (s : List ℕ) → Past n s → reads (lineValues (firstForm (drop n commands)) s) ≡ false → Past (n + 1) s
+missed n s p h = p ∙ not-first (drop n commands) s h ∙ ap (λ (ks : List Kind). firstOf ks s) (drop-drop 1 n commands)
+
+-- it is the next one
+pub met : (word : String) (e : Event) (more : List Kind) (s : List ℕ) → firstOf commands s ≡ firstOf (command word e ∷ more) s
+    → reads (lineValues (wordItems word) s) ≡ true → read.Event e ≡ firstOf commands s
+met word e more s p h = sym (p ∙ go (lineValues (wordItems word) s) h)
+  where
+    go : (w : Values) → reads w ≡ true → says (held w) (λ vs. read.Event e) (firstOf more s) ≡ read.Event e
+    go other h = never h
+    go (values vs) h = refl
+
 pub empty : (s : List ℕ) → length s ≡ 0 → read.Other ≡ firstOf kinds s
 empty [] h = refl
 empty (b ∷ s) h = absurd (omega arith)
 
--- the first byte of a line
-pub first-sample : (s : List ℕ) → getD s 0 0 ≡ 115 → firstOf (sample ∷ []) s ≡ firstOf kinds s
-first-sample [] e = refl
-first-sample (b ∷ s) e = rw e
-
-pub first-setup : (s : List ℕ) → getD s 0 0 ≡ 109 → firstOf (setup ∷ []) s ≡ firstOf kinds s
-first-setup [] e = refl
-first-setup (b ∷ s) e = rw e
-
-pub first-store : (s : List ℕ) → getD s 0 0 ≡ 99 → firstOf (store ∷ []) s ≡ firstOf kinds s
-first-store [] e = refl
-first-store (b ∷ s) e = rw e
-
-pub first-report : (s : List ℕ) → getD s 0 0 ≡ 114 → firstOf (report ∷ []) s ≡ firstOf kinds s
-first-report [] e = refl
-first-report (b ∷ s) e = rw e
-
-pub first-command : (s : List ℕ) → getD s 0 0 ≡ 67 → firstOf commands s ≡ firstOf kinds s
-first-command [] e = refl
-first-command (b ∷ s) e = rw e
+-- the first byte of a line leaves these kinds, where no other has a form that begins with it
+pub by-first : (ks : List Kind) (b : ℕ) → ((s : List ℕ) → firstOf ks (b ∷ s) ≡ firstOf kinds (b ∷ s)) → (s : List ℕ) → (length s ≡ 0 → ⊥) → getD s 0 0 ≡ b
+    → firstOf ks s ≡ firstOf kinds s
+by-first ks b same [] h e = absurd (h refl)
+by-first ks b same (x ∷ s) h e = rw e (same s)
 
 pub first-none : (s : List ℕ) → (getD s 0 0 ≡ 115 → ⊥) → (getD s 0 0 ≡ 109 → ⊥) → (getD s 0 0 ≡ 99 → ⊥) → (getD s 0 0 ≡ 114 → ⊥) → (getD s 0 0 ≡ 67 → ⊥)
     → read.Other ≡ firstOf kinds s

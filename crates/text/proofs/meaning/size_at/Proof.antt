@@ -1,5 +1,4 @@
 -- `size_at`: the value at the place, without its sign. Assumes nothing.
-use mathlib.Core.Path.{_≡_}
 use denote.Ref.{now}
 use Rattle.laws.proofs.Signed.{back}
 use Rattle.text.specs.Read.{at}

@@ -1,6 +1,5 @@
 -- `level_of` is the digit's value. Assumes nothing.
 use borrow.Author.Needs.{needs}
-use native.Mathlib.Omega.{arith}
 use denote.Ref.{now}
 use Rattle.text.proofs.Keys.{level-here}
 use Rattle.text.proofs.quick.level_of.Statement.{statement}
