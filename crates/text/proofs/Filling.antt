@@ -32,7 +32,7 @@ prepend-also : (vs : List ℤ) (v : ℤ) (w : Values) → prepend vs (also v w) 
 prepend-also vs v other = refl
 prepend-also vs v (values ws) = ap values (sym (append-assoc vs (v ∷ []) ws))
 
-held-also : (v : ℤ) (w : Values) → held (also v w) ≡ also (hold v) (held w)
+pub held-also : (v : ℤ) (w : Values) → held (also v w) ≡ also (hold v) (held w)
 held-also v other = refl
 held-also v (values ws) = refl
 

@@ -1,5 +1,5 @@
 -- A sample's text by its keys: what the quick reader tests, and what it tells of the form. Assumes nothing.
-use Prim.Native.Nat.{ℕ, zero, suc, _+_, _-_, _≤_, _<_, min}
+use Prim.Native.Nat.{ℕ, _+_, _-_, _≤_, _<_, min}
 use mathlib.Core.Path.{_≡_, refl, sym, ap, _∙_}
 use mathlib.Core.Bool.{Bool, true, false, _&&_, _||_, and-assoc, and-true}
 use mathlib.Core.List.{List, [], _∷_, _++_, map}
@@ -10,9 +10,10 @@ use lib.ListN.{length, getD, take, drop, drop-of-length-le, length-drop}
 use lib.Seq.{drop-drop, take-all}
 use borrow.Author.Tests.{eqb-true}
 use Rattle.laws.proofs.Tests.{both, by-cases}
+use Rattle.decimal.specs.Bytes.{bytes}
 use Rattle.text.specs.Number.{Head, none, some, numberHead}
-use Rattle.text.specs.Form.{Item, byte, number, Values, other, values, also, andRest, lineValues}
-use Rattle.text.specs.Read.{limit, hold, held, unsignedOf, Kind, sample, says, firstOf}
+use Rattle.text.specs.Form.{Item, byte, number, Values, values, also, andRest, lineValues}
+use Rattle.text.specs.Read.{limit, hold, held, unsignedOf, sample, says, firstOf}
 use Rattle.text.specs.Views.{byteIs, heldHead, isPrefix, isLevel, sensorKey, emergencyKey, safetyKey, foreignKey, grossKey, headIs, middleIs}
 use mathlib.Core.Logic.{_⊎_, ⊎-elim}
 use Rattle.event.specs.declared.Event.{Event}
@@ -20,6 +21,7 @@ use Rattle.event.specs.declared.Event.the-variants as event
 use Rattle.text.specs.declared.Read.{Read}
 use Rattle.text.specs.declared.Read.the-variants as read
 use Rattle.text.proofs.Heads.{never, cut, inside}
+use Rattle.text.proofs.Filling.{held-also}
 
 -- ---- the tests of the code
 
@@ -111,8 +113,8 @@ head-law s h =
     let r = both (isPrefix emergencyKey (drop 8 s)) _ (q .1) in
     let t = both (isLevel (drop 19 s)) (isPrefix safetyKey (drop 20 s)) (r .1) in
     prefix-law sensorKey (number ∷ (map byte emergencyKey ++ behind)) s (p .0)
-    ∙ level-law s (101 ∷ 109 ∷ 101 ∷ 114 ∷ 103 ∷ 101 ∷ 110 ∷ 99 ∷ 121 ∷ 61 ∷ []) 7 behind (q .0) (r .0)
-    ∙ ap (also (pos (getD s 7 0 - 48))) (level-law s (115 ∷ 97 ∷ 102 ∷ 101 ∷ 116 ∷ 121 ∷ 61 ∷ []) 19 (number ∷ tail) (t .0) (t .1))
+    ∙ level-law s (bytes "emergency=") 7 behind (q .0) (r .0)
+    ∙ ap (also (pos (getD s 7 0 - 48))) (level-law s (bytes "safety=") 19 (number ∷ tail) (t .0) (t .1))
 
 pub middle-law : (s : List ℕ) → middleIs s ≡ true
     → lineValues tail s ≡ also (pos (getD s 9 0 - 48)) (andRest (lineValues []) (numberHead (drop 17 s)))
@@ -120,7 +122,7 @@ middle-law s h =
     let p = both (isPrefix foreignKey (drop 0 s)) _ h in
     let q = both (isLevel (drop 9 s)) (isPrefix grossKey (drop 10 s)) (p .1) in
     prefix-law foreignKey (number ∷ (map byte grossKey ++ (number ∷ []))) s (p .0)
-    ∙ level-law s (103 ∷ 114 ∷ 111 ∷ 115 ∷ 115 ∷ 61 ∷ []) 9 (number ∷ []) (q .0) (q .1)
+    ∙ level-law s (bytes "gross=") 9 (number ∷ []) (q .0) (q .1)
 
 pub head-levels : (s : List ℕ) → headIs s ≡ true → (isLevel (drop 7 s) ≡ true) × (isLevel (drop 19 s) ≡ true)
 head-levels s h =
@@ -133,10 +135,6 @@ pub middle-level : (s : List ℕ) → middleIs s ≡ true → isLevel (drop 9 s)
 middle-level s h = both (isLevel (drop 9 s)) (isPrefix grossKey (drop 10 s)) (both (isPrefix foreignKey (drop 0 s)) _ h .1) .0
 
 -- ---- the values, held
-
-held-also : (x : ℤ) (w : Values) → held (also x w) ≡ also (hold x) (held w)
-held-also x other = refl
-held-also x (values vs) = refl
 
 -- a level is held as it is
 held-level : (line : List ℕ) (i : ℕ) (w : Values) → isLevel (drop i line) ≡ true → held (also (pos (getD line i 0 - 48)) w) ≡ also (pos (getD line i 0 - 48)) (held w)

@@ -13,7 +13,7 @@ use Rattle.laws.specs.Choice.{if_then_else_}
 use Rattle.laws.proofs.Tests.{by-cases}
 use Rattle.event.specs.declared.Event.{Event}
 use Rattle.text.specs.Form.{Item, byte, wordItems, Values, other, values, lineValues}
-use Rattle.text.specs.Read.{held, at, Kind, command, sample, setup, store, report, commands, kinds, says, firstOf}
+use Rattle.text.specs.Read.{held, at, Kind, command, commands, kinds, says, firstOf}
 use Rattle.text.specs.Views.{reads, firsts}
 use Rattle.text.specs.declared.form.Fields.{Fields}
 use Rattle.text.specs.declared.Read.{Read}

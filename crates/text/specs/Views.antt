@@ -6,6 +6,7 @@ use lib.ListN.{drop}
 use lib.Dec.{eqb}
 use lib.IntN.{ℤ, pos}
 use Rattle.laws.specs.Choice.{if_then_else_, within}
+use Rattle.decimal.specs.Bytes.{bytes}
 use Rattle.text.specs.Number.{Head, none, some, numberHead, fourDigits, fourNumber, fourHead}
 use Rattle.text.specs.Form.{Item, byte, number, four, Values, other, values, valueCount}
 use Rattle.text.specs.Read.{hold, at}
@@ -71,21 +72,21 @@ abbrev pub isLevel : List ℕ → Bool
 isLevel [] = false
 isLevel (b ∷ s) = eqb b 48 || eqb b 49
 
--- the keys of a sample as bytes: "sensor=", " emergency=", " safety=", " foreign=", " gross="
+-- the keys of a sample, each but the first behind its space
 abbrev pub sensorKey : List ℕ
-sensorKey = 115 ∷ 101 ∷ 110 ∷ 115 ∷ 111 ∷ 114 ∷ 61 ∷ []
+sensorKey = bytes "sensor="
 
 abbrev pub emergencyKey : List ℕ
-emergencyKey = 32 ∷ 101 ∷ 109 ∷ 101 ∷ 114 ∷ 103 ∷ 101 ∷ 110 ∷ 99 ∷ 121 ∷ 61 ∷ []
+emergencyKey = bytes " emergency="
 
 abbrev pub safetyKey : List ℕ
-safetyKey = 32 ∷ 115 ∷ 97 ∷ 102 ∷ 101 ∷ 116 ∷ 121 ∷ 61 ∷ []
+safetyKey = bytes " safety="
 
 abbrev pub foreignKey : List ℕ
-foreignKey = 32 ∷ 102 ∷ 111 ∷ 114 ∷ 101 ∷ 105 ∷ 103 ∷ 110 ∷ 61 ∷ []
+foreignKey = bytes " foreign="
 
 abbrev pub grossKey : List ℕ
-grossKey = 32 ∷ 103 ∷ 114 ∷ 111 ∷ 115 ∷ 115 ∷ 61 ∷ []
+grossKey = bytes " gross="
 
 -- a sample's text up to the value of safety, and between those of safety and gross, with levels for the other values
 abbrev pub headIs : List ℕ → Bool

@@ -11,24 +11,6 @@ use Rattle.text.proofs.Keys.{head-levels, middle-level, quick-law, from
 use Rattle.text.proofs.quick.quick_sample.Statement.{statement}
 use Rattle.text.proofs.quick.quick_sample.Tie as tie
 
-returns : tie.Need-returns
-returns c = inl refl
-
-returns-2 : tie.Need-returns-2
-returns-2 c = inl refl
-
-returns-3 : tie.Need-returns-3
-returns-3 c = inl refl
-
-returns-4 : tie.Need-returns-4
-returns-4 c = inl refl
-
-returns-5 : tie.Need-returns-5
-returns-5 c = inl refl
-
-returns-6 : tie.Need-returns-6
-returns-6 c = inl refl
-
 level-of-requires : tie.Need-level-of-requires
 level-of-requires c κs = head-levels (now (c .before .before .before .before .before .before .before .before .before .before .before .before .before .before .before .before .args .line)) (sym (c .before .before .before .before .before .before .before .before .before .before .before .before .before .before .is-head .ensures) ∙ not-false _ (c .before .before .before .before .before .before .before .before .before .before .before .before .before .if1 .left)) .0
 
@@ -65,15 +47,15 @@ quick-sample-spec =
     tie.close
     (tie.spec
     (search needs)
-    returns
+    (λ c. inl refl)
     (search needs) (search needs) (search needs)
-    returns-2
-    returns-3
+    (λ c. inl refl)
+    (λ c. inl refl)
     (search needs) (search needs) (search needs) (search needs)
-    returns-4
+    (λ c. inl refl)
     (search needs) (search needs) (search needs)
-    returns-5
-    returns-6
+    (λ c. inl refl)
+    (λ c. inl refl)
     level-of-requires
     level-of-requires-2
     (search needs)
