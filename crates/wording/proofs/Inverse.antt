@@ -229,10 +229,24 @@ text-of-four (a ∷ b ∷ c ∷ d ∷ s) v rest h = go (fourDigits a b c d) refl
 abbrev Back : List Item → Type 0
 Back form = (rest : List ℕ) (ws : List ℤ) → lineValues form rest ≡ values ws → rest ≡ lineText form ws
 
-split : (form : List Item) (v : ℤ) (w : Values) (rest : List ℕ) (vs : List ℤ) → lineValues form rest ≡ w → also v w ≡ values vs → Back form
-    → (ws : List ℤ) × (vs ≡ v ∷ ws) × (rest ≡ lineText form ws)
-split form v other rest vs f g more = clash (cc)
-split form v (values ws) rest vs f g more = (ws, cc, more rest ws f)
+record Values-of (write : ℤ → List ℕ) (form : List Item) (s : List ℕ) (vs : List ℤ) : Type 0 where
+  value : ℤ
+  others : List ℤ
+  first : vs ≡ value ∷ others
+  text : s ≡ write value ++ lineText form others
+
+-- where what is read at the head of a text is written as it stood there
+first-value : (head : List ℕ → Head) (write : ℤ → List ℕ) → ((s : List ℕ) (v : ℤ) (rest : List ℕ) → head s ≡ some v rest → s ≡ write v ++ rest)
+    → (form : List Item) (s : List ℕ) (vs : List ℤ) → andRest (lineValues form) (head s) ≡ values vs → Back form → Values-of write form s vs
+first-value head write same form s vs h more = go (head s) refl h
+  where
+    rest-of : (v : ℤ) (rest : List ℕ) (w : Values) → head s ≡ some v rest → lineValues form rest ≡ w → also v w ≡ values vs → Values-of write form s vs
+    rest-of v rest other e f g = clash (cc)
+    rest-of v rest (values ws) e f g = record { value = v; others = ws; first = cc; text = same s v rest e ∙ ap (λ (l : List ℕ). write v ++ l) (more rest ws f) }
+
+    go : (r : Head) → head s ≡ r → andRest (lineValues form) r ≡ values vs → Values-of write form s vs
+    go none e h = clash (cc)
+    go (some v rest) e h = rest-of v rest (lineValues form rest) e refl h
 
 -- what is read as a line of a form is that form's text of the values
 text-of-values : (form : List Item) (s : List ℕ) (vs : List ℤ) → lineValues form s ≡ values vs → s ≡ lineText form vs
@@ -245,21 +259,11 @@ text-of-values (byte c ∷ form) (b ∷ s) vs h = go (eqb b c) refl h (λ e. tex
     go true e h more = let f : b ≡ c = eqb-true b c e in let g = more h in cc
     go false e h more = clash (cc)
 text-of-values (number ∷ form) s vs h =
-    go (numberHead s) refl h (λ rest ws e. text-of-values form rest ws e)
-  where
-    go : (r : Head) → numberHead s ≡ r → andRest (lineValues form) r ≡ values vs → Back form → s ≡ lineText (number ∷ form) vs
-    go none e h more = clash (cc)
-    go (some v rest) e h more =
-        let p = split form v (lineValues form rest) rest vs refl h more in
-        rw (p .1) (text-of-head s v rest e ∙ ap (λ (l : List ℕ). numberText v ++ l) (p .2))
+    let p = first-value numberHead numberText text-of-head form s vs h (λ rest ws e. text-of-values form rest ws e) in
+    rw (p .first) (p .text)
 text-of-values (four ∷ form) s vs h =
-    go (fourHead s) refl h (λ rest ws e. text-of-values form rest ws e)
-  where
-    go : (r : Head) → fourHead s ≡ r → andRest (lineValues form) r ≡ values vs → Back form → s ≡ lineText (four ∷ form) vs
-    go none e h more = clash (cc)
-    go (some v rest) e h more =
-        let p = split form v (lineValues form rest) rest vs refl h more in
-        rw (p .1) (text-of-four s v rest e ∙ ap (λ (l : List ℕ). fourText v ++ l) (p .2))
+    let p = first-value fourHead fourText text-of-four form s vs h (λ rest ws e. text-of-values form rest ws e) in
+    rw (p .first) (p .text)
 
 pub one-text : OneText
 one-text = record {
