@@ -3,7 +3,7 @@ ghost use mathlib.Core.Path.{_≡_};
 ghost use Prim.Native.Nat.{_+_, _≤_, _<_};
 ghost use lib.ListN.{length};
 ghost use Rattle.decimal.specs.Number.{decimal, numberText};
-ghost use Rattle.print.specs.Steps.{Wrote};
+ghost use Rattle.print.specs.Steps.{Wrote, valueRoom};
 use weight::size;
 
 pub(crate) fn put(out: &mut [u8], at: usize, text: &[u8]) -> usize
@@ -36,8 +36,8 @@ pub(crate) fn put_decimal(out: &mut [u8], at: usize, n: u64) -> usize
 }
 
 pub(crate) fn put_signed(out: &mut [u8], at: usize, v: i64) -> usize
-    requires { ⌜ at + 20 ≤ length (now out) ⌝ }
-    ensures { λ r. ⌜ Wrote (now (out .entry)) at (numberText v) 20 (now (out .exit)) r ⌝ }
+    requires { ⌜ at + valueRoom ≤ length (now out) ⌝ }
+    ensures { λ r. ⌜ Wrote (now (out .entry)) at (numberText v) valueRoom (now (out .exit)) r ⌝ }
 {
     let n = size(v);
     if 0 <= v {

@@ -4,7 +4,7 @@ ghost use lib.ListN.{length};
 ghost use Rattle.decimal.specs.Number.{decimal, numberText};
 ghost use Rattle.print.specs.Text.{none};
 ghost use Rattle.print.specs.Sheet.{figureText, spreadText};
-ghost use Rattle.print.specs.Steps.{Field};
+ghost use Rattle.print.specs.Steps.{Field, valueRoom};
 use crate::buffer::put;
 use crate::buffer::put_decimal;
 use crate::buffer::put_signed;
@@ -12,7 +12,7 @@ use spread::Spread;
 use weight::Figure;
 
 pub(crate) fn put_count(out: &mut [u8], at: usize, key: &[u8], n: u64) -> usize
-    requires { ⌜ at + length (now key) + 20 ≤ length (now out) ⌝ }
+    requires { ⌜ at + length (now key) + valueRoom ≤ length (now out) ⌝ }
     ensures { λ r. ⌜ Field (now (out .entry)) at (now (key .entry)) (decimal n) (now (out .exit)) r ⌝ }
 {
     let value = put(out, at, key);
@@ -20,7 +20,7 @@ pub(crate) fn put_count(out: &mut [u8], at: usize, key: &[u8], n: u64) -> usize
 }
 
 pub(crate) fn put_number(out: &mut [u8], at: usize, key: &[u8], v: i64) -> usize
-    requires { ⌜ at + length (now key) + 20 ≤ length (now out) ⌝ }
+    requires { ⌜ at + length (now key) + valueRoom ≤ length (now out) ⌝ }
     ensures { λ r. ⌜ Field (now (out .entry)) at (now (key .entry)) (numberText v) (now (out .exit)) r ⌝ }
 {
     let value = put(out, at, key);
@@ -28,7 +28,7 @@ pub(crate) fn put_number(out: &mut [u8], at: usize, key: &[u8], v: i64) -> usize
 }
 
 pub(crate) fn put_figure(out: &mut [u8], at: usize, key: &[u8], f: Figure) -> usize
-    requires { ⌜ at + length (now key) + 20 ≤ length (now out) ⌝ }
+    requires { ⌜ at + length (now key) + valueRoom ≤ length (now out) ⌝ }
     ensures { λ r. ⌜ Field (now (out .entry)) at (now (key .entry)) (figureText f) (now (out .exit)) r ⌝ }
 {
     match f {
@@ -38,7 +38,7 @@ pub(crate) fn put_figure(out: &mut [u8], at: usize, key: &[u8], f: Figure) -> us
 }
 
 pub(crate) fn put_spread(out: &mut [u8], at: usize, key: &[u8], s: Spread) -> usize
-    requires { ⌜ at + length (now key) + 20 ≤ length (now out) ⌝ }
+    requires { ⌜ at + length (now key) + valueRoom ≤ length (now out) ⌝ }
     ensures { λ r. ⌜ Field (now (out .entry)) at (now (key .entry)) (spreadText s) (now (out .exit)) r ⌝ }
 {
     match s {
@@ -48,7 +48,7 @@ pub(crate) fn put_spread(out: &mut [u8], at: usize, key: &[u8], s: Spread) -> us
 }
 
 pub(crate) fn put_none(out: &mut [u8], at: usize, key: &[u8]) -> usize
-    requires { ⌜ at + length (now key) + 20 ≤ length (now out) ⌝ }
+    requires { ⌜ at + length (now key) + valueRoom ≤ length (now out) ⌝ }
     ensures { λ r. ⌜ Field (now (out .entry)) at (now (key .entry)) none (now (out .exit)) r ⌝ }
 {
     let value = put(out, at, key);

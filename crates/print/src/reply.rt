@@ -6,7 +6,7 @@ ghost use Rattle.decimal.specs.Bytes.{bytes};
 ghost use Rattle.print.specs.Text.{ahead, joined};
 ghost use Rattle.print.specs.Reply.{errorText, shown, did, doneText, refusedText, replyText, replyRoom};
 ghost use Rattle.print.specs.Written.{bufferAfter, lengthWritten};
-ghost use Rattle.print.specs.Steps.{Wrote, Field};
+ghost use Rattle.print.specs.Steps.{Wrote, Field, valueRoom};
 use crate::REPLY_ROOM;
 use crate::buffer::put;
 use crate::field::put_count;
@@ -70,7 +70,7 @@ fn put_did(out: &mut [u8], at: usize, d: Done) -> usize
 }
 
 fn put_error(out: &mut [u8], at: usize, key: &[u8], error: u64) -> usize
-    requires { ⌜ at + length (now key) + 20 ≤ length (now out) ⌝ }
+    requires { ⌜ at + length (now key) + valueRoom ≤ length (now out) ⌝ }
     ensures { λ r. ⌜ Field (now (out .entry)) at (now (key .entry)) (errorText error) (now (out .exit)) r ⌝ }
 {
     if error == Done::NO_ERROR {

@@ -15,7 +15,7 @@ use Rattle.laws.proofs.Tests.{both, by-cases}
 use Rattle.text.specs.Number.{Head, none, some, numberHead, fourHead}
 use Rattle.text.specs.Form.{Item, byte, number, four, Values, other, values, also, andRest, lineValues, valueCount}
 use Rattle.text.specs.Read.{hold, held, at as value}
-use Rattle.text.specs.Views.{byteIs, heldHead, found, isLiteral, itemOf, itemsOf, valueHead, firsts}
+use Rattle.text.specs.Views.{byteIs, heldHead, found, isLiteral, itemOf, itemsOf, valueHead, mostValues, firsts}
 use Rattle.text.specs.declared.number.Found.{Found}
 use Rattle.text.specs.declared.number.Found.the-variants.{Nothing, Value}
 use Rattle.text.proofs.Heads.{never, cut, Byte}
@@ -65,10 +65,10 @@ byte-other c form (b ∷ s) h = rw h
 pub record State (line form : List ℕ) (vs : List ℤ) (count at k : ℕ) : Type 0 where
   pub inside : k ≤ length form
   pub left : count + valueCount (itemsOf (drop k form)) ≡ valueCount (itemsOf form)
-  pub room : length vs ≡ 11
+  pub room : length vs ≡ mostValues
   pub same : prepend (take count vs) (held (lineValues (itemsOf (drop k form)) (drop at line))) ≡ held (lineValues (itemsOf form) line)
 
-pub start : (line form : List ℕ) (vs : List ℤ) → length vs ≡ 11 → State line form vs 0 0 0
+pub start : (line form : List ℕ) (vs : List ℤ) → length vs ≡ mostValues → State line form vs 0 0 0
 start line form vs l =
     record { inside = omega arith; left = omega arith; room = l; same = prepend-nil (held (lineValues (itemsOf form) line)) }
 
@@ -108,10 +108,10 @@ module _ {line form : List ℕ} {vs : List ℤ} {count at k : ℕ} (st : State l
       omega arith
 
   pub value-found : isLiteral (getD form k 0) ≡ false → (v : ℤ) (next : ℕ) → found line (Value v next) ≡ heldHead (valueHead (getD form k 0) (drop at line))
-      → valueCount (itemsOf form) ≤ 11 → State line form (set vs count v) (count + 1) next (k + 1)
+      → valueCount (itemsOf form) ≤ mostValues → State line form (set vs count v) (count + 1) next (k + 1)
   value-found l v next e few =
       let r = value-room l in
-      let room : length vs ≡ 11 = st .room in
+      let room : length vs ≡ mostValues = st .room in
       let t : take (count + 1) (set vs count v) ≡ take count vs ++ v ∷ [] = rw add-one (take-suc-set vs count v (omega arith)) in
       record {
         inside = omega arith;
@@ -126,12 +126,12 @@ firsts-taken (suc n) [] h = absurd (omega arith)
 firsts-taken (suc n) (v ∷ vs) h = ap (λ (ws : List ℤ). v ∷ ws) (firsts-taken n vs (omega arith))
 
 -- behind the last item the line must end
-module _ {line form : List ℕ} {vs : List ℤ} {count at k : ℕ} (st : State line form vs count at k) (h : length form ≤ k) (few : valueCount (itemsOf form) ≤ 11) where
+module _ {line form : List ℕ} {vs : List ℤ} {count at k : ℕ} (st : State line form vs count at k) (h : length form ≤ k) (few : valueCount (itemsOf form) ≤ mostValues) where
   pub ended : (if leb (length line) at then values (firsts (valueCount (itemsOf form)) (value vs)) else other) ≡ held (lineValues (itemsOf form) line)
   ended =
       let n : count + 0 ≡ valueCount (itemsOf form) = rw (drop-of-length-le form h) at (st .left) in
       let m : valueCount (itemsOf form) ≡ count = omega arith in
-      let room : length vs ≡ 11 = st .room in
+      let room : length vs ≡ mostValues = st .room in
       by-cases (leb (length line) at)
       (λ e. rw (e, m, firsts-taken count vs (omega arith)) (ap values (sym (append-nil (take count vs)))
       ∙ (rw (drop-of-length-le form h, drop-of-length-le line (leb-true (length line) at e)) at (st .same))))

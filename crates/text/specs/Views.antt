@@ -48,6 +48,10 @@ itemsOf form = map itemOf form
 abbrev pub valueHead : ℕ → List ℕ → Head
 valueHead b s = if eqb b 35 then numberHead s else fourHead s
 
+-- setup's: no form has more
+abbrev pub mostValues : ℕ
+mostValues = 11
+
 -- the first n values, each by its place
 abbrev pub firsts : ℕ → (ℕ → ℤ) → List ℤ
 firsts zero value = []

@@ -4,15 +4,18 @@ ghost use Prim.Native.Nat.{_≤_};
 ghost use lib.ListN.{drop};
 ghost use Rattle.text.specs.Form.{lineValues, valueCount};
 ghost use Rattle.text.specs.Read.{held};
-ghost use Rattle.text.specs.Views.{isLiteral, itemsOf, valueHead, found, heldHead, fieldsValues};
+ghost use Rattle.text.specs.Views.{isLiteral, itemsOf, valueHead, found, heldHead, mostValues, fieldsValues};
 use crate::number::Found;
 use crate::number::byte_at;
 use crate::number::read_four;
 use crate::number::read_number;
 
-// The values of a line, where `ok`; a form has at most eleven.
+// A form has at most so many values.
+const MOST_VALUES: usize = 11;
+
+// The values of a line, where `ok`.
 pub(crate) struct Fields {
-    pub(crate) values: [i64; 11],
+    pub(crate) values: [i64; MOST_VALUES],
     pub(crate) ok: bool,
 }
 
@@ -33,10 +36,10 @@ fn read_value(line: &[u8], at: usize, item: u8) -> Found
 }
 
 pub(crate) fn read_form(line: &[u8], form: &[u8]) -> Fields
-    requires { ⌜ valueCount (itemsOf (now form)) ≤ 11 ⌝ }
+    requires { ⌜ valueCount (itemsOf (now form)) ≤ mostValues ⌝ }
     ensures { λ r. ⌜ fieldsValues (now (form .entry)) r ≡ held (lineValues (itemsOf (now (form .entry))) (now (line .entry))) ⌝ }
 {
-    let mut values = [0i64; 11];
+    let mut values = [0i64; MOST_VALUES];
     let mut count = 0;
     let mut at = 0;
     let mut k = 0;

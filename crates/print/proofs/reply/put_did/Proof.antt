@@ -23,10 +23,6 @@ pub put-did-spec : {M : Type 1} → statement M
 put-did-spec =
     tie.close
     (tie.spec
-    (search needs) (search needs)
-    (search needs) (search needs)
-    (search needs) (search needs)
-    (search needs) (search needs)
-    (search needs) (search needs)
-    (search needs)
+    (search needs) (search needs) (search needs) (search needs) (search needs) (search needs) (search needs) (search needs)
+    (search needs) (search needs) (search needs)
     returns)

@@ -21,9 +21,6 @@ pub put-shown-spec : {M : Type 1} → statement M
 put-shown-spec =
     tie.close
     (tie.spec
-    (search needs) (search needs)
-    (search needs) (search needs)
-    (search needs) (search needs)
-    (search needs) (search needs)
+    (search needs) (search needs) (search needs) (search needs) (search needs) (search needs) (search needs) (search needs)
     (search needs)
     returns)

@@ -19,8 +19,5 @@ pub put-faults-spec : {M : Type 1} → statement M
 put-faults-spec =
     tie.close
     (tie.spec
-    (search needs) (search needs)
-    (search needs) (search needs)
-    (search needs) (search needs)
-    (search needs)
+    (search needs) (search needs) (search needs) (search needs) (search needs) (search needs) (search needs)
     returns)

@@ -21,10 +21,6 @@ pub put-grades-spec : {M : Type 1} → statement M
 put-grades-spec =
     tie.close
     (tie.spec
-    (search needs) (search needs)
-    (search needs) (search needs)
-    (search needs) (search needs)
-    (search needs) (search needs)
-    (search needs) (search needs)
-    (search needs)
+    (search needs) (search needs) (search needs) (search needs) (search needs) (search needs) (search needs) (search needs)
+    (search needs) (search needs) (search needs)
     returns)

@@ -18,7 +18,5 @@ pub put-spreads-spec : {M : Type 1} → statement M
 put-spreads-spec =
     tie.close
     (tie.spec
-    (search needs) (search needs)
-    (search needs) (search needs)
-    (search needs)
+    (search needs) (search needs) (search needs) (search needs) (search needs)
     returns)

@@ -20,8 +20,5 @@ pub put-totals-spec : {M : Type 1} → statement M
 put-totals-spec =
     tie.close
     (tie.spec
-    (search needs) (search needs)
-    (search needs) (search needs)
-    (search needs) (search needs)
-    (search needs)
+    (search needs) (search needs) (search needs) (search needs) (search needs) (search needs) (search needs)
     returns)

@@ -8,6 +8,7 @@ use lib.ListN.{length, getD}
 use denote.Ref.{now}
 use borrow.Author.Tests.{not-true, not-false}
 use Rattle.laws.proofs.Signed.{back}
+use Rattle.text.specs.Views.{mostValues}
 use Rattle.text.proofs.Heads.{byte-here}
 use Rattle.text.proofs.Filling.{State, start, byte-found, byte-missing, value-missing, value-room, value-found, ended}
 use Rattle.text.proofs.form.read_form.Statement.{statement}
@@ -61,7 +62,7 @@ returns-2 c =
     (rw (c .enum-told .given .1) at (c .before .before .read-value .ensures))
 
 -- a value has its place
-room : (c : tie.After-known-told Inv-loop μ-loop) → at-loop (c .before .before .before .before .before) .loop .count < 11
+room : (c : tie.After-known-told Inv-loop μ-loop) → at-loop (c .before .before .before .before .before) .loop .count < mostValues
 room c =
     let i = c .before .before .before .before .before in
     let r = value-room (at-loop i .loop .inv) (i .before .before .loop-test .taken) (sym (i .is-literal .ensures) ∙ c .before .before .before .before .if1 .left) in
