@@ -2,6 +2,7 @@
 ghost use mathlib.Core.Path.{_≡_};
 ghost use Prim.Native.Nat.{_+_, _≤_, _<_};
 ghost use lib.ListN.{length};
+ghost use Rattle.decimal.specs.Bytes.{digitByte};
 ghost use Rattle.decimal.specs.Number.{decimal, numberText};
 ghost use Rattle.print.specs.Steps.{Wrote, valueRoom};
 use weight::size;
@@ -62,7 +63,7 @@ fn width(n: u64) -> usize
 
 fn digit(n: u64) -> u8
     requires { ⌜ n < 10 ⌝ }
-    ensures { λ r. ⌜ r ≡ 48 + n ⌝ }
+    ensures { λ r. ⌜ r ≡ digitByte n ⌝ }
 {
-    (48 + n) as u8
+    b'0' + (n as u8)
 }

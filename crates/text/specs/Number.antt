@@ -1,10 +1,12 @@
 -- 01, "Text lines": how a number is read, and how four digits are written.
 use Prim.Native.Nat.{ℕ, _+_, _-_, _*_, _/_, _%_}
+use Prim.Native.Char.{code}
 use mathlib.Core.Bool.{Bool, true, false, _&&_}
 use mathlib.Core.List.{List, [], _∷_}
 use lib.Dec.{eqb}
 use lib.IntN.{ℤ, pos, negsuc, negℤ}
 use Rattle.laws.specs.Choice.{if_then_else_, within}
+use Rattle.decimal.specs.Bytes.{digitByte}
 
 -- what stands at the head of a text: no number, or a number and the text behind it
 pub data Head : Type 0 where
@@ -12,7 +14,10 @@ pub data Head : Type 0 where
   some : ℤ → List ℕ → Head
 
 abbrev pub isDigit : ℕ → Bool
-isDigit b = within 48 57 b
+isDigit b = within (digitByte 0) (digitByte 9) b
+
+abbrev pub digitOf : ℕ → ℕ
+digitOf b = b - digitByte 0
 
 -- a size, below zero or not
 abbrev pub signed : Bool → ℕ → ℤ
@@ -22,23 +27,23 @@ signed false n = pos n
 -- the digits at the head of a text, behind those of n: "of any number of digits"
 abbrev pub digits : Bool → ℕ → List ℕ → Head
 digits below n [] = some (signed below n) []
-digits below n (b ∷ s) = if isDigit b then digits below (n * 10 + (b - 48)) s else some (signed below n) (b ∷ s)
+digits below n (b ∷ s) = if isDigit b then digits below (n * 10 + digitOf b) s else some (signed below n) (b ∷ s)
 
 -- digits with the first 1 to 9: "no .. leading zero"
 abbrev pub positive : Bool → List ℕ → Head
 positive below [] = none
-positive below (b ∷ s) = if within 49 57 b then digits below (b - 48) s else none
+positive below (b ∷ s) = if within (digitByte 1) (digitByte 9) b then digits below (digitOf b) s else none
 
 -- `0`, or `-` and such digits, or such digits: "no plus, leading zero or -0"
 abbrev pub numberHead : List ℕ → Head
 numberHead [] = none
-numberHead (b ∷ s) = if eqb b 48 then some (pos 0) s else (if eqb b 45 then positive true s else positive false (b ∷ s))
+numberHead (b ∷ s) = if eqb b (digitByte 0) then some (pos 0) s else (if eqb b (code "-") then positive true s else positive false (b ∷ s))
 
 abbrev pub fourDigits : ℕ → ℕ → ℕ → ℕ → Bool
 fourDigits a b c d = isDigit a && (isDigit b && (isDigit c && isDigit d))
 
 abbrev pub fourNumber : ℕ → ℕ → ℕ → ℕ → ℕ
-fourNumber a b c d = (a - 48) * 1000 + (b - 48) * 100 + (c - 48) * 10 + (d - 48)
+fourNumber a b c d = digitOf a * 1000 + digitOf b * 100 + digitOf c * 10 + digitOf d
 
 -- "with four digits"
 abbrev pub fourHead : List ℕ → Head
@@ -50,5 +55,5 @@ fourHead (a ∷ b ∷ c ∷ d ∷ s) = if fourDigits a b c d then some (pos (fou
 
 -- and the writer: a number from 0 to 9999
 abbrev pub fourText : ℤ → List ℕ
-fourText (pos n) = (48 + n / 10 / 10 / 10) ∷ (48 + n / 10 / 10 % 10) ∷ (48 + n / 10 % 10) ∷ (48 + n % 10) ∷ []
+fourText (pos n) = digitByte (n / 10 / 10 / 10) ∷ digitByte (n / 10 / 10 % 10) ∷ digitByte (n / 10 % 10) ∷ digitByte (n % 10) ∷ []
 fourText (negsuc n) = []

@@ -1,12 +1,13 @@
 -- The reader's parts in the terms of `Number` and `Form`.
 use Prim.Native.Nat.{ℕ, zero, suc}
+use Prim.Native.Char.{code}
 use mathlib.Core.Bool.{Bool, true, false, not, _&&_, _||_}
 use mathlib.Core.List.{List, [], _∷_, map}
 use lib.ListN.{drop}
 use lib.Dec.{eqb}
 use lib.IntN.{ℤ, pos}
 use Rattle.laws.specs.Choice.{if_then_else_, within}
-use Rattle.decimal.specs.Bytes.{bytes}
+use Rattle.decimal.specs.Bytes.{bytes, digitByte}
 use Rattle.text.specs.Number.{Head, none, some, numberHead, fourDigits, fourNumber, fourHead}
 use Rattle.text.specs.Form.{Item, byte, number, four, Values, other, values, valueCount}
 use Rattle.text.specs.Read.{hold, at}
@@ -21,7 +22,7 @@ byteIs c (b ∷ s) = eqb b c
 
 abbrev pub digitFrom : ℕ → List ℕ → Bool
 digitFrom low [] = false
-digitFrom low (b ∷ s) = within low 57 b
+digitFrom low (b ∷ s) = within low (digitByte 9) b
 
 abbrev pub heldHead : Head → Head
 heldHead none = none
@@ -36,17 +37,17 @@ fourOf a b c d next = if fourDigits a b c d then Value (pos (fourNumber a b c d)
 
 -- the source writes a form as a text: # is a number, $ four digits, and any other byte itself
 abbrev pub isLiteral : ℕ → Bool
-isLiteral b = not (eqb b 35) && not (eqb b 36)
+isLiteral b = not (eqb b (code "#")) && not (eqb b (code "$"))
 
 abbrev pub itemOf : ℕ → Item
-itemOf b = if eqb b 35 then number else (if eqb b 36 then four else byte b)
+itemOf b = if eqb b (code "#") then number else (if eqb b (code "$") then four else byte b)
 
 abbrev pub itemsOf : List ℕ → List Item
 itemsOf form = map itemOf form
 
 -- what an item that has a value finds at the head of a text
 abbrev pub valueHead : ℕ → List ℕ → Head
-valueHead b s = if eqb b 35 then numberHead s else fourHead s
+valueHead b s = if eqb b (code "#") then numberHead s else fourHead s
 
 -- setup's: no form has more
 abbrev pub mostValues : ℕ
@@ -74,7 +75,7 @@ isPrefix (k ∷ key) (b ∷ s) = eqb b k && isPrefix key s
 -- 0 or 1 does
 abbrev pub isLevel : List ℕ → Bool
 isLevel [] = false
-isLevel (b ∷ s) = eqb b 48 || eqb b 49
+isLevel (b ∷ s) = eqb b (digitByte 0) || eqb b (digitByte 1)
 
 -- the keys of a sample, each but the first behind its space
 abbrev pub sensorKey : List ℕ

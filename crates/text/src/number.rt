@@ -31,7 +31,7 @@ fn digit_at(line: &[u8], at: usize, low: u8) -> bool
         return false;
     }
     let b = line[at];
-    (low <= b) & (b <= 57)
+    (low <= b) & (b <= b'9')
 }
 
 pub(crate) fn wide(b: u8) -> u64
@@ -61,8 +61,8 @@ fn read_digits(line: &[u8], at: usize, below: bool, start: u64) -> Found
 {
     let mut size = start;
     let mut i = at;
-    while digit_at(line, i, 48) {
-        size = hold(size * 10 + wide(line[i] - 48));
+    while digit_at(line, i, b'0') {
+        size = hold(size * 10 + wide(line[i] - b'0'));
         i += 1;
     }
     Found::Value {
@@ -75,10 +75,10 @@ fn read_digits(line: &[u8], at: usize, below: bool, start: u64) -> Found
 fn read_positive(line: &[u8], at: usize, below: bool) -> Found
     ensures { λ r. ⌜ found (now (line .entry)) r ≡ heldHead (positive below (drop at (now (line .entry)))) ⌝ }
 {
-    if !digit_at(line, at, 49) {
+    if !digit_at(line, at, b'1') {
         return Found::Nothing;
     }
-    read_digits(line, at + 1, below, wide(line[at] - 48))
+    read_digits(line, at + 1, below, wide(line[at] - b'0'))
 }
 
 pub(crate) fn read_number(line: &[u8], at: usize) -> Found
@@ -99,7 +99,7 @@ pub(crate) fn read_number(line: &[u8], at: usize) -> Found
 fn is_digit(b: u8) -> bool
     ensures { λ r. ⌜ r ≡ isDigit b ⌝ }
 {
-    (48 <= b) & (b <= 57)
+    (b'0' <= b) & (b <= b'9')
 }
 
 // The number of four digits.
@@ -110,7 +110,7 @@ fn four_of(a: u8, b: u8, c: u8, d: u8, next: usize) -> Found
     if !all {
         return Found::Nothing;
     }
-    let n = wide(a - 48) * 1000 + wide(b - 48) * 100 + wide(c - 48) * 10 + wide(d - 48);
+    let n = wide(a - b'0') * 1000 + wide(b - b'0') * 100 + wide(c - b'0') * 10 + wide(d - b'0');
     Found::Value {
         value: n as i64,
         next: next,

@@ -3,9 +3,10 @@ ghost use mathlib.Core.Path.{_≡_};
 ghost use mathlib.Core.Bool.{true};
 ghost use mathlib.Core.List.{[], _∷_};
 ghost use mathlib.Core.Logic.{_⊎_};
-ghost use Prim.Native.Nat.{_-_, _<_};
+ghost use Prim.Native.Nat.{_<_};
 ghost use lib.ListN.{length, drop, getD};
 ghost use Rattle.text.specs.declared.Read.the-variants.{Other};
+ghost use Rattle.text.specs.Number.{digitOf};
 ghost use Rattle.text.specs.Read.{sample, firstOf};
 ghost use Rattle.text.specs.Views.{isPrefix, isLevel, headIs, middleIs};
 use crate::Read;
@@ -44,14 +45,14 @@ fn level_at(line: &[u8], at: usize) -> bool
         return false;
     }
     let b = line[at];
-    (b == 48) | (b == 49)
+    (b == b'0') | (b == b'1')
 }
 
 fn level_of(line: &[u8], at: usize) -> u64
     requires { ⌜ isLevel (drop at (now line)) ≡ true ⌝ }
-    ensures { λ r. ⌜ r ≡ getD (now (line .entry)) at 0 - 48 ⌝ }
+    ensures { λ r. ⌜ r ≡ digitOf (getD (now (line .entry)) at 0) ⌝ }
 {
-    wide(line[at] - 48)
+    wide(line[at] - b'0')
 }
 
 // A sample's text up to the value of safety, with a level for each of the two values before it.
