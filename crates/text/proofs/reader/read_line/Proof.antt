@@ -3,6 +3,7 @@ use borrow.Author.Needs.{needs}
 use Prim.Native.Nat.{ℕ}
 use mathlib.Core.List.{List, [], _∷_}
 use mathlib.Core.Path.{_≡_, refl, _∙_}
+use native.Mathlib.Omega.{arith}
 use lib.ListN.{length, getD}
 use denote.Ref.{now}
 use borrow.Author.Tests.{le-leb, lt-leb}
@@ -13,7 +14,7 @@ use Rattle.text.proofs.reader.read_line.Statement.{statement}
 use Rattle.text.proofs.reader.read_line.Tie as tie
 
 returns : tie.Need-returns
-returns c = simp (lt-leb _ _ (c .if1 .taken))
+returns c = rw (lt-leb (length (now (c .before .before .args .line))) longestLine (omega arith))
 
 -- a line that is short enough
 abbrev line : tie.Else1 → List ℕ
