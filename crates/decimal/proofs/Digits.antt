@@ -12,6 +12,7 @@ use native.Mathlib.Nat.{pow-suc}
 use borrow.Author.Tests.{lt-ltb, le-ltb, ltb-true, ltb-false}
 use Rattle.laws.proofs.Signed.{not-neg, pos-abs}
 use Rattle.laws.proofs.Tests.{if-ind, by-cases}
+use Rattle.decimal.specs.Bytes.{digitByte}
 use Rattle.decimal.specs.Number.{decimalBy, decimal, numberText}
 
 -- fuel does not matter where there is enough
@@ -21,7 +22,7 @@ any-fuel (suc k) zero n h g = absurd (omega arith)
 any-fuel (suc k) (suc j) n h g =
     if-ind (λ (l : List ℕ). l ≡ decimalBy (suc j) n) (ltb n 10) _ _
     (λ e. rw e)
-    (λ e. let ge = ltb-false n 10 e in rw e (ap (λ (l : List ℕ). l ++ ((48 + n % 10) ∷ [])) (any-fuel k j (n / 10) (omega arith) (omega arith))))
+    (λ e. let ge = ltb-false n 10 e in rw e (ap (λ (l : List ℕ). l ++ (digitByte (n % 10) ∷ [])) (any-fuel k j (n / 10) (omega arith) (omega arith))))
 
 -- one digit, and one digit more
 pub decimal-digit : (n : ℕ) → n < 10 → decimal n ≡ (48 + n) ∷ []
