@@ -1,0 +1,71 @@
+-- Tests of a list, one place at a time, as loops walk it. Each law is over the test and the type of the elements, so that
+-- every loop cites the same. Assumes nothing.
+use mathlib.Core.Path.{_≡_, refl, sym, ap}
+use mathlib.Core.Bool.{Bool, true, false, _&&_}
+use mathlib.Core.List.{List, [], _∷_, _++_}
+use Prim.Native.Nat.{ℕ, zero, suc, _+_, _≤_, _<_, compare·suc-suc}
+use native.Mathlib.Omega.{arith}
+use native.Mathlib.Numerals.{add-one}
+use lib.Dec.{ltb}
+use lib.ListN.{length, getD, take, drop, drop-of-length-le, length-take}
+use lib.Seq.{drop-cons, getD-take, length-take-le}
+use borrow.Author.Tests.{lt-ltb}
+use Rattle.laws.specs.Choice.{if_then_else_}
+use Rattle.laws.proofs.Tests.{both, and-intro, if-ind, by-cases}
+use Rattle.lists.specs.Each.{anyOf, allOf, without}
+
+-- what is left from place i on, one step further
+pub rest : {A : Type 0} (l : List A) (i : ℕ) (d : A) → i < length l → drop i l ≡ getD l i d ∷ drop (i + 1) l
+rest l i d h = rw add-one (drop-cons l i d h)
+
+-- the first n are those that were counted
+pub take-counted : {A : Type 0} (n : ℕ) (l : List A) → take (length (take n l)) l ≡ take n l
+take-counted zero l = refl
+take-counted (suc n) [] = refl
+take-counted {A} (suc n) (x ∷ l) = ap (λ (k : List A). x ∷ k) (take-counted n l)
+
+-- ---- a test that the first n pass: of those the elements left decide. t is what the test of element i answered
+
+module _ {A : Type 0} (p : A → Bool) where
+  pub all-next :
+      (n : ℕ) (l : List A) (i : ℕ) (d : A) {t : Bool} → n ≤ length l → i < n → p (getD l i d) ≡ t
+      → allOf p (drop i (take n l)) ≡ (t && allOf p (drop (i + 1) (take n l)))
+  unfolding allOf
+  all-next n l i d h k r =
+      let m : i < length (take n l) = omega (arith, length-take-le n l h) in
+      rw (rest (take n l) i d m, getD-take n l i d k, r)
+
+  -- past the end none is left
+  pub all-end : (n : ℕ) (l : List A) → allOf p (drop n (take n l)) ≡ true
+  unfolding allOf
+  all-end n l = rw (drop-of-length-le (take n l) {i = n} (omega (arith, length-take n l)))
+
+  pub all-more : (l k : List A) → allOf p l ≡ true → allOf p k ≡ true → allOf p (l ++ k) ≡ true
+  unfolding allOf
+  all-more [] k h g = g
+  all-more (x ∷ l) k h g = let b = both (p x) (allOf p l) h in and-intro (b .0) (all-more l k (b .1) g)
+
+-- ---- the list without those that pass, before place i
+
+module _ {A : Type 0} (p : A → Bool) where
+  pub without-more : (l k : List A) → without p (l ++ k) ≡ without p l ++ without p k
+  unfolding without
+  without-more [] k = refl
+  without-more (x ∷ l) k = by-cases (p x) (λ h. rw (h, without-more l k)) (λ h. rw (h, without-more l k))
+
+  pub without-short : (l : List A) → length (without p l) ≤ length l
+  unfolding without
+  without-short [] = omega arith
+  without-short (x ∷ l) =
+      if-ind (λ (k : List A). length k ≤ suc (length l)) (p x) _ _
+      (λ _. omega (arith, without-short l))
+      (λ _. omega (arith, without-short l))
+
+  -- one passes exactly where the list gets shorter without them
+  pub one-less : (l : List A) → anyOf p l ≡ ltb (length (without p l)) (length l)
+  unfolding anyOf without
+  one-less [] = refl
+  one-less (x ∷ l) =
+      by-cases (p x)
+      (λ h. rw h (sym (lt-ltb (length (without p l)) (suc (length l)) (omega (arith, without-short l)))))
+      (λ h. rw (h, compare·suc-suc) (one-less l))
