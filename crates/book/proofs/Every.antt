@@ -14,7 +14,7 @@ use Rattle.laws.specs.Choice.{if_then_else_}
 use Rattle.laws.proofs.Tests.{both, and-intro, if-ind, by-cases}
 use Rattle.settings.specs.Settings.{blank, recordFit, recordRanged, limitsOrdered, settingsLength}
 use Rattle.settings.specs.declared.Settings.{Settings}
-use Rattle.device.specs.Sorter.{sorting, waiting, sorterOff, waitsFit, sorterFit}
+use Rattle.device.proofs.Keeps.{off-fit, off-idle}
 use Rattle.event.specs.Setup.{setupRanged, edgeAgrees}
 use Rattle.event.specs.Event.{eventRanged, eventAgrees}
 use Rattle.event.specs.declared.Event.{Event}
@@ -148,9 +148,9 @@ holds-after w e h =
 -- ---- every list
 
 fresh-fit : FitLine freshLine
-unfolding freshLine setupRanged edgeAgrees lastFit sensorFit statusFit errorKnown busy sorting waiting sorterOff waitsFit sorterFit itemFit undoFit
+unfolding freshLine setupRanged edgeAgrees lastFit sensorFit statusFit errorKnown busy itemFit undoFit
 fresh-fit =
-    record { code = refl; setup = refl; last = refl; sensor = refl; status = refl; sorter = refl; delay = refl; item = refl; undo = refl }
+    record { code = refl; setup = refl; last = refl; sensor = refl; status = rw off-idle; sorter = off-fit; delay = refl; item = refl; undo = refl }
 
 blank-fit : recordFit blank ≡ true
 unfolding recordRanged limitsOrdered

@@ -1,18 +1,26 @@
--- What a tick keeps: times stay from 0 to 9,999, levels 0 or 1. Assumes nothing.
-use mathlib.Core.Path.{_≡_, refl}
-use mathlib.Core.Bool.{Bool, true, _&&_, not}
-use mathlib.Core.List.{List, [], _∷_, map}
+-- What a tick keeps: times stay from 0 to 9,999, levels 0 or 1, a queue's waits from 1 to 9,999 and at most eight. Assumes nothing.
+use mathlib.Core.Path.{_≡_, refl, sym}
+use mathlib.Core.Bool.{Bool, true, false, _&&_, not}
+use mathlib.Core.List.{List, [], _∷_, _++_, map}
 use Prim.Native.Nat.{ℕ, _+_, _-_, _≤_, max}
 use native.Mathlib.Omega.{arith}
 use lib.Dec.{leb, eqb}
-use borrow.Author.Tests.{leb-true, le-leb, leb-false}
+use lib.ListN.{length, length-append, length-map, length-take}
+use borrow.Author.Tests.{leb-true, le-leb, leb-false, eqb-false}
+use Rattle.laws.specs.Choice.{within}
 use Rattle.laws.proofs.Tests.{both, and-intro, if-ind}
+use Rattle.lists.specs.Each.{allOf, without}
+use Rattle.lists.proofs.Each.{all-more, without-short, without-keeps}
+use Rattle.device.specs.Time.{longest, fallen, ended}
 use Rattle.device.specs.Sensor.{settled}
-use Rattle.device.specs.Sorter.{anyEnds, fallen, sorterTicked, placed, queued, sorterOff, waitsFit, sorterFit}
+use Rattle.device.specs.Queue.{places, waitsOf, laid, waiting, isEmpty, isFull, queueTicked, oneEnds, joined, queueFit}
+use Rattle.device.specs.Sorter.{sorting, sorterTicked, queued, sorterOff, sorterFit}
 use Rattle.device.specs.Foreign.{delayFallen, signalled, foreignTicked}
 use Rattle.device.specs.declared.sensor.Sensor.{Sensor}
+use Rattle.device.specs.declared.queue.Queue.{Queue}
 use Rattle.device.specs.declared.sorter.Sorter.{Sorter}
 use Rattle.device.specs.declared.foreign.Foreign.{Foreign}
+use Rattle.device.proofs.Waits.{waits-laid}
 
 -- ---- the sensor
 
@@ -29,42 +37,67 @@ settled-keeps s tc level f t l =
     (λ _. record { level = l; run = omega arith })
     (λ h. record { level = f .level; run = omega (arith, leb-false (max 1 tc) (s .run + 1) h) }))
 
+-- ---- the queue
+
+laid-fit : (l : List ℕ) → length l ≤ places → allOf (within 1 longest) l ≡ true → queueFit (laid l) ≡ true
+unfolding queueFit laid
+laid-fit l n h = and-intro (le-leb (length l) places n) (rw (waits-laid l) h)
+
+-- a wait that has fallen and not ended
+still-fit : (w : ℕ) → within 1 longest w ≡ true → ended (fallen w) ≡ false → within 1 longest (fallen w) ≡ true
+still-fit w h t =
+    let b = both (leb 1 w) (leb w longest) h in
+    let above : fallen w ≡ 0 → ⊥ = eqb-false (fallen w) 0 t in
+    and-intro (le-leb 1 (fallen w) (omega arith)) (le-leb (fallen w) longest (omega (arith, leb-true w longest (b .1))))
+
+waits-few : (q : Queue) → waiting q ≤ q .n
+unfolding waiting waitsOf
+waits-few q = omega (arith, length-take (q .n) (q .waits))
+
+pub queue-ticked-fit : (q : Queue) → queueFit q ≡ true → queueFit (queueTicked q) ≡ true
+unfolding queueTicked queueFit waiting
+queue-ticked-fit q h =
+    let b = both (leb (q .n) places) (allOf (within 1 longest) (waitsOf q)) h in
+    let fell = map fallen (waitsOf q) in
+    let few : length (without ended fell) ≤ places = omega (arith, without-short ended fell, length-map (waitsOf q) fallen, waits-few q, leb-true (q .n) places (b .0)) in
+    if-ind (λ (k : Queue). queueFit k ≡ true) (isEmpty q) _ _
+    (λ _. h)
+    (λ _. laid-fit (without ended fell) few (without-keeps ended (within 1 longest) fallen still-fit (waitsOf q) (b .1)))
+
+pub joined-fit : (q : Queue) (ts : ℕ) → within 1 longest ts ≡ true → queueFit q ≡ true → queueFit (joined q ts) ≡ true
+unfolding joined queueFit isFull allOf waiting
+joined-fit q ts t h =
+    let b = both (leb (q .n) places) (allOf (within 1 longest) (waitsOf q)) h in
+    if-ind (λ (k : Queue). queueFit k ≡ true) (isFull q) _ _
+    (λ _. h)
+    (λ f. laid-fit (waitsOf q ++ ts ∷ [])
+    (omega (arith, length-append (waitsOf q) (ts ∷ []), leb-false places (waiting q) f))
+    (all-more (within 1 longest) (waitsOf q) (ts ∷ []) (b .1) (and-intro t refl)))
+
 -- ---- the sorter
 
-fallen-fit : (ws : List ℕ) → waitsFit ws ≡ true → waitsFit (map fallen ws) ≡ true
-unfolding waitsFit
-fallen-fit [] h = refl
-fallen-fit (w ∷ ws) h =
-    let b = both (leb w 9999) (waitsFit ws) h in
-    and-intro (le-leb (w - 1) 9999 (omega (arith, leb-true w 9999 (b .0)))) (fallen-fit ws (b .1))
-
-placed-fit : (ws : List ℕ) (ts : ℕ) → ts ≤ 9999 → waitsFit ws ≡ true → waitsFit (placed ws ts) ≡ true
-unfolding waitsFit placed
-placed-fit [] ts t h = refl
-placed-fit (w ∷ ws) ts t h =
-    let b = both (leb w 9999) (waitsFit ws) h in
-    if-ind (λ (l : List ℕ). waitsFit l ≡ true) (eqb w 0) _ _
-    (λ _. and-intro (le-leb ts 9999 t) (b .1))
-    (λ _. and-intro (b .0) (placed-fit ws ts t (b .1)))
-
-pub ticked-fit : (s : Sorter) (to : ℕ) → to ≤ 9999 → sorterFit s ≡ true → sorterFit (sorterTicked s to) ≡ true
+pub ticked-fit : (s : Sorter) (to : ℕ) → to ≤ longest → sorterFit s ≡ true → sorterFit (sorterTicked s to) ≡ true
 unfolding sorterFit sorterTicked
 ticked-fit s to t h =
-    let b = both (waitsFit (s .waits)) (leb (s .on) 9999) h in
-    and-intro (fallen-fit (s .waits) (b .0))
-    (if-ind (λ (n : ℕ). leb n 9999 ≡ true) (anyEnds (s .waits)) _ _
-    (λ _. le-leb to 9999 t)
-    (λ _. le-leb (s .on - 1) 9999 (omega (arith, leb-true (s .on) 9999 (b .1)))))
+    let b = both (queueFit (s .queue)) (leb (s .on) longest) h in
+    and-intro (queue-ticked-fit (s .queue) (b .0))
+    (if-ind (λ (n : ℕ). leb n longest ≡ true) (oneEnds (s .queue)) _ _
+    (λ _. le-leb to longest t)
+    (λ _. le-leb (fallen (s .on)) longest (omega (arith, leb-true (s .on) longest (b .1)))))
 
-pub queued-fit : (s : Sorter) (ts : ℕ) → ts ≤ 9999 → sorterFit s ≡ true → sorterFit (queued s ts) ≡ true
+pub queued-fit : (s : Sorter) (ts : ℕ) → within 1 longest ts ≡ true → sorterFit s ≡ true → sorterFit (queued s ts) ≡ true
 unfolding sorterFit queued
 queued-fit s ts t h =
-    let b = both (waitsFit (s .waits)) (leb (s .on) 9999) h in
-    and-intro (placed-fit (s .waits) ts t (b .0)) (b .1)
+    let b = both (queueFit (s .queue)) (leb (s .on) longest) h in
+    and-intro (joined-fit (s .queue) ts t (b .0)) (b .1)
 
 pub off-fit : sorterFit sorterOff ≡ true
-unfolding sorterFit waitsFit sorterOff
-off-fit = refl
+unfolding sorterFit sorterOff allOf
+off-fit = and-intro (laid-fit [] (omega arith) refl) refl
+
+pub off-idle : sorting sorterOff ≡ false
+unfolding sorting sorterOff isEmpty waiting waitsOf laid
+off-idle = refl
 
 -- ---- the foreign detector
 

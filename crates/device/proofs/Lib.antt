@@ -1,3 +1,2 @@
-pub mod Places
-pub mod Keeps
 pub mod Waits
+pub mod Keeps

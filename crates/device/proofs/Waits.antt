@@ -1,51 +1,82 @@
--- Whether something waits, at the eight places and by the list. Assumes nothing.
-use mathlib.Core.Path.{_≡_, refl, sym, subst, ap, _∙_}
-use mathlib.Core.Bool.{Bool, true, false, not, _||_, or-false}
-use mathlib.Core.List.{List, [], _∷_, map}
-use Prim.Native.Nat.{ℕ, zero, suc}
+-- What a queue holds: the waits of a list laid, after a tick, after one joined; and what the number n tells of them where
+-- the queue has its eight places. Assumes nothing.
+use mathlib.Core.Path.{_≡_, refl, sym, ap, _∙_}
+use mathlib.Core.Bool.{Bool, true, false}
+use mathlib.Core.List.{List, [], _∷_, _++_, map}
+use Prim.Native.Nat.{ℕ, suc, _+_, _≤_, min}
 use native.Mathlib.Omega.{arith}
-use lib.Dec.{T, eqb, ltb}
-use lib.ListN.{length, getD}
-use borrow.Author.Tests.{eqb-true, lt-ltb}
+use lib.Dec.{eqb, ltb, leb}
+use lib.ListN.{length, take, replicate, length-append, length-take, length-map}
+use lib.Seq.{take-append-seam}
+use borrow.Author.Tests.{eq-eqb, ne-eqb, eqb-true, eqb-false, le-leb, lt-leb, leb-true, leb-false}
+use Rattle.laws.specs.Choice.{if_then_else_}
 use Rattle.laws.proofs.Tests.{by-cases}
-use Rattle.device.specs.Sorter.{waiting, anyWaits, anyEnds, fallen}
+use Rattle.lists.specs.Each.{anyOf, without}
+use Rattle.lists.proofs.Each.{one-less, take-counted}
+use Rattle.device.specs.Time.{fallen, ended}
+use Rattle.device.specs.Queue.{places, waitsOf, laid, waiting, isEmpty, isFull, queueTicked, oneEnds, joined}
+use Rattle.device.specs.declared.queue.Queue.{Queue}
 
--- place k of the queue holds a wait
-abbrev pub waitsAt : List ℕ → ℕ → Bool
-waitsAt w k = not (eqb (getD w k 0) 0)
+-- the waits of a list laid are the list
+pub waits-laid : (l : List ℕ) → waitsOf (laid l) ≡ l
+unfolding waitsOf laid
+waits-laid l = take-append-seam l _
 
-pub eight : (w : List ℕ) → length w ≡ 8 → (waitsAt w 0 || (waitsAt w 1 || (waitsAt w 2 || (waitsAt w 3 || (waitsAt w 4 || (waitsAt w 5 || (waitsAt w 6 || waitsAt w 7))))))) ≡ anyWaits w
-unfolding anyWaits
-eight [] h = absurd (omega arith)
-eight (a ∷ []) h = absurd (omega arith)
-eight (a ∷ b ∷ []) h = absurd (omega arith)
-eight (a ∷ b ∷ c ∷ []) h = absurd (omega arith)
-eight (a ∷ b ∷ c ∷ d ∷ []) h = absurd (omega arith)
-eight (a ∷ b ∷ c ∷ d ∷ e ∷ []) h = absurd (omega arith)
-eight (a ∷ b ∷ c ∷ d ∷ e ∷ f ∷ []) h = absurd (omega arith)
-eight (a ∷ b ∷ c ∷ d ∷ e ∷ f ∷ g ∷ []) h = absurd (omega arith)
-eight (a ∷ b ∷ c ∷ d ∷ e ∷ f ∷ g ∷ i ∷ []) h = simp (or-false (not (eqb i 0)))
-eight (a ∷ b ∷ c ∷ d ∷ e ∷ f ∷ g ∷ i ∷ j ∷ ws) h = absurd (omega arith)
+-- ---- a tick
 
-pub waits-count : (w : List ℕ) → anyWaits w ≡ ltb 0 (length (waiting w))
-unfolding anyWaits waiting
-waits-count [] = refl
-waits-count (a ∷ ws) =
-    by-cases (eqb a 0) (λ h. rw h (waits-count ws)) (λ h. rw h (sym (lt-ltb 0 (suc (length (waiting ws))) (omega arith))))
+nothing : (l : List ℕ) → length l ≡ 0 → l ≡ without ended (map fallen l)
+unfolding without
+nothing [] h = refl
+nothing (w ∷ l) h = absurd (omega arith)
 
--- where nothing waits, nothing falls and nothing ends
-pub none-falls : (w : List ℕ) → anyWaits w ≡ false → map fallen w ≡ w
-unfolding anyWaits
-none-falls [] h = refl
-none-falls (a ∷ ws) h =
-    by-cases (eqb a 0)
-    (λ z. rw (eqb-true a 0 z) (ap (λ (l : List ℕ). 0 ∷ l) (none-falls ws (rw z at h))))
-    (λ z. absurd (subst T (rw z at h) tt))
+pub waits-ticked : (q : Queue) → waitsOf (queueTicked q) ≡ without ended (map fallen (waitsOf q))
+unfolding queueTicked isEmpty waiting
+waits-ticked q =
+    by-cases (isEmpty q)
+    (λ t. rw t (nothing (waitsOf q) (eqb-true (waiting q) 0 t)))
+    (λ t. rw t (waits-laid _))
 
-pub none-ends : (w : List ℕ) → anyWaits w ≡ false → anyEnds w ≡ false
-unfolding anyWaits anyEnds
-none-ends [] h = refl
-none-ends (a ∷ ws) h =
-    by-cases (eqb a 0)
-    (λ z. rw (eqb-true a 0 z) (none-ends ws (rw z at h)))
-    (λ z. absurd (subst T (rw z at h) tt))
+-- one ends on a tick exactly where fewer wait after it
+pub ends-fewer : (q : Queue) → oneEnds q ≡ ltb (waiting (queueTicked q)) (waiting q)
+unfolding oneEnds waiting
+ends-fewer q = one-less ended (map fallen (waitsOf q)) ∙ rw (waits-ticked q, length-map)
+
+-- ---- one joins
+
+pub waits-joined : (q : Queue) (ts : ℕ) → isFull q ≡ false → waitsOf (joined q ts) ≡ waitsOf q ++ ts ∷ []
+unfolding joined
+waits-joined q ts h = rw h (waits-laid _)
+
+pub one-more : (q : Queue) (ts : ℕ) → isFull q ≡ false → waiting (joined q ts) ≡ waiting q + 1
+unfolding waiting
+one-more q ts h = rw (waits-joined q ts h) (length-append (waitsOf q) (ts ∷ []))
+
+-- a full queue takes none
+pub none-joins : (q : Queue) (ts : ℕ) → isFull q ≡ true → joined q ts ≡ q
+unfolding joined
+none-joins q ts h = rw h
+
+-- ---- the number n
+
+pub waits-counted : (q : Queue) → take (waiting q) (q .waits) ≡ waitsOf q
+unfolding waiting waitsOf
+waits-counted q = take-counted (q .n) (q .waits)
+
+module _ (q : Queue) (h : length (q .waits) ≡ places) where
+  pub waiting-is : waiting q ≡ min (q .n) places
+  unfolding waiting waitsOf
+  waiting-is = omega (arith, length-take (q .n) (q .waits))
+
+  pub empty-is : eqb (q .n) 0 ≡ isEmpty q
+  unfolding isEmpty
+  empty-is =
+      by-cases (eqb (q .n) 0)
+      (λ t. t ∙ sym (eq-eqb (waiting q) 0 (omega (arith, waiting-is, eqb-true (q .n) 0 t))))
+      (λ t. t ∙ sym (ne-eqb (waiting q) 0 (λ e. eqb-false (q .n) 0 t (omega (arith, waiting-is)))))
+
+  pub full-is : leb places (q .n) ≡ isFull q
+  unfolding isFull
+  full-is =
+      by-cases (leb places (q .n))
+      (λ t. t ∙ sym (le-leb places (waiting q) (omega (arith, waiting-is, leb-true places (q .n) t))))
+      (λ t. t ∙ sym (lt-leb places (waiting q) (omega (arith, waiting-is, leb-false places (q .n) t))))

@@ -1,3 +1,5 @@
+pub mod Time
 pub mod Sensor
+pub mod Queue
 pub mod Sorter
 pub mod Foreign

@@ -18,7 +18,7 @@ pub record Timers (s : Setup) : Type 0 where
   pub tf : s .tf ≤ 9999
   pub some : 1 ≤ s .ta
   pub ta : s .ta ≤ 9999
-  pub ts : s .ts ≤ 9999
+  pub ts : within 1 9999 (s .ts) ≡ true
   pub to : s .to ≤ 9999
 
 -- the tests before those of ta, ts and to
@@ -46,7 +46,7 @@ timers s h =
       tf = leb-true _ _ (tf .1);
       some = leb-true _ _ (ta-both .0);
       ta = leb-true _ _ (ta-both .1);
-      ts = leb-true _ _ (both (leb 1 (s .ts)) (leb (s .ts) 9999) (ts .1) .1);
+      ts = ts .1;
       to = leb-true _ _ (both (leb 1 (s .to)) (leb (s .to) 9999) (to .1) .1);
     }
 

@@ -6,11 +6,11 @@ use lib.Dec.{leb, eqb}
 use borrow.Author.Tests.{leb-true, le-leb, eqb-true}
 use Rattle.laws.proofs.Tests.{both, and-intro, if-ind}
 use Rattle.mask.specs.Bits.{marked}
-use Rattle.device.specs.Sorter.{sorterFit, sorting, waiting, sorterOff, sorterTicked, queued}
+use Rattle.device.specs.Sorter.{sorterFit, sorterTicked, queued}
 use Rattle.device.specs.Foreign.{foreignTicked}
 use Rattle.device.specs.declared.sorter.Sorter.{Sorter}
 use Rattle.device.specs.declared.foreign.Foreign.{Foreign}
-use Rattle.device.proofs.Keeps.{settled-keeps, ticked-fit, queued-fit, off-fit, ticked-delay}
+use Rattle.device.proofs.Keeps.{settled-keeps, ticked-fit, queued-fit, off-fit, off-idle, ticked-delay}
 use Rattle.event.specs.declared.Sample.{Sample}
 use Rattle.event.proofs.Facts.{timers, InRange}
 use Rattle.line.specs.Line.{stopped, running, paused, emergency, busy, withStatus, withSorter, withForeign, withItem}
@@ -186,12 +186,12 @@ halted-fit l s f h =
     }
 
 stopped-status : (l : Line) → statusFit (halted l stopped) ≡ true
-unfolding halted statusFit errorKnown busy sorting waiting sorterOff
-stopped-status l = refl
+unfolding halted statusFit errorKnown busy
+stopped-status l = rw off-idle
 
 emergency-status : (l : Line) → statusFit (halted l emergency) ≡ true
-unfolding halted statusFit errorKnown busy sorting waiting sorterOff
-emergency-status l = refl
+unfolding halted statusFit errorKnown busy
+emergency-status l = rw off-idle
 
 pub fit-stop : (l : Line) → FitLine l → FitLine (halted l stopped)
 fit-stop l f = halted-fit l stopped f (stopped-status l)

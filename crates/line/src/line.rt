@@ -3,6 +3,7 @@ ghost use mathlib.Core.Path.{_≡_};
 ghost use Rattle.line.specs.Line.{busy, conveyor, sorterOn, freshSetup, freshLine, withStatus, withCode, withSetup, withSensed, withForeign, withItem, withSorter, withUndo};
 use crate::item::Item;
 use device::Foreign;
+use device::Queue;
 use device::Sensor;
 use device::Sorter;
 use event::Done;
@@ -43,7 +44,7 @@ impl Line {
     // verdicts that a code's tally takes, and waits that the queue takes
     pub const TALLY_LIMIT: u64 = 999_999;
 
-    pub const QUEUE_LIMIT: u64 = 8;
+    pub const QUEUE_LIMIT: u64 = Queue::PLACES;
 
     // timers of a fresh line, in ticks of 10 ms
     pub const TC: u64 = 0;

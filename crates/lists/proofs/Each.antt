@@ -2,7 +2,7 @@
 -- every loop cites the same. Assumes nothing.
 use mathlib.Core.Path.{_≡_, refl, sym, ap}
 use mathlib.Core.Bool.{Bool, true, false, _&&_}
-use mathlib.Core.List.{List, [], _∷_, _++_}
+use mathlib.Core.List.{List, [], _∷_, _++_, map}
 use Prim.Native.Nat.{ℕ, zero, suc, _+_, _≤_, _<_, compare·suc-suc}
 use native.Mathlib.Omega.{arith}
 use native.Mathlib.Numerals.{add-one}
@@ -45,7 +45,7 @@ module _ {A : Type 0} (p : A → Bool) where
   all-more [] k h g = g
   all-more (x ∷ l) k h g = let b = both (p x) (allOf p l) h in and-intro (b .0) (all-more l k (b .1) g)
 
--- ---- the list without those that pass, before place i
+-- ---- the list without those that pass
 
 module _ {A : Type 0} (p : A → Bool) where
   pub without-more : (l k : List A) → without p (l ++ k) ≡ without p l ++ without p k
@@ -69,3 +69,15 @@ module _ {A : Type 0} (p : A → Bool) where
       by-cases (p x)
       (λ h. rw h (sym (lt-ltb (length (without p l)) (suc (length l)) (omega (arith, without-short l)))))
       (λ h. rw (h, compare·suc-suc) (one-less l))
+
+  -- where what a rule g leaves keeps a fitness f, the list keeps it
+  pub without-keeps :
+      (f : A → Bool) (g : A → A) → ((x : A) → f x ≡ true → p (g x) ≡ false → f (g x) ≡ true)
+      → (l : List A) → allOf f l ≡ true → allOf f (without p (map g l)) ≡ true
+  unfolding allOf without
+  without-keeps f g one [] h = refl
+  without-keeps f g one (x ∷ l) h =
+      let b = both (f x) (allOf f l) h in
+      if-ind (λ (k : List A). allOf f k ≡ true) (p (g x)) _ _
+      (λ _. without-keeps f g one l (b .1))
+      (λ t. and-intro (one x (b .0) t) (without-keeps f g one l (b .1)))

@@ -5,11 +5,11 @@ use mathlib.Core.List.{List, [], _∷_, _++_, map, map-append, append-nil}
 use Prim.Native.Nat.{ℕ, suc, _+_, _-_, _≤_, _<_}
 use native.Mathlib.Omega.{arith}
 use native.Mathlib.Numerals.{add-one}
-use lib.ListN.{length, getD, set, take, replicate, length-append, length-take, length-map}
+use lib.ListN.{length, getD, set, take, replicate, length-append}
 use lib.Seq.{take-suc, length-take-le}
 use Rattle.lists.specs.Each.{without}
 use Rattle.lists.specs.Places.{inPlaces}
-use Rattle.lists.proofs.Each.{without-more, without-short}
+use Rattle.lists.proofs.Each.{without-more}
 
 module _ {A : Type 0} (n : ℕ) (d : A) where
   first-free : (l : List A) (m : ℕ) (x : A) → set (l ++ replicate (suc m) d) (length l) x ≡ (l ++ x ∷ []) ++ replicate m d

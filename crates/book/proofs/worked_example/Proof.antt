@@ -14,7 +14,9 @@ use Rattle.line.specs.Step.{accepted, stepOf}
 use Rattle.tally.specs.Tally.{tallyFit, hasRoom, largestWith, smallestWith, countedWith, weighedWith, added}
 use Rattle.tallies.specs.Memory.{part, tallyOf, unsigned, tallyAtFit, withTally, zeros}
 use Rattle.device.specs.Sensor.{settled}
-use Rattle.device.specs.Sorter.{waiting, full, sorting, anyEnds, sorterTicked, placed, queued, sorterOff, waitsFit, sorterFit}
+use Rattle.lists.specs.Each.{anyOf, allOf, without}
+use Rattle.device.specs.Queue.{waitsOf, laid, waiting, isEmpty, isFull, queueTicked, oneEnds, joined, queueFit}
+use Rattle.device.specs.Sorter.{full, sorting, sorterTicked, queued, sorterOff, sorterFit}
 use Rattle.device.specs.Foreign.{delayFallen, signalled, foreignTicked, flagUsed}
 use Rattle.mask.specs.Bits.{marked, firstOff}
 use Rattle.settings.specs.Settings.{recordRanged, limitsOrdered}
@@ -27,7 +29,7 @@ use Rattle.book.proofs.worked_example.Statement.{statement}
 use Rattle.book.proofs.worked_example.Tie as tie
 
 returns : tie.Need-returns
-unfolding run runFrom freshLine busy conveyor sorterOn lastFit sensorFit errorKnown itemFit undoFit statusFit lineFit halted halting replied sortedFor errorFor stoppedFor given orCrash verdictOf judged step1 edgeMade foreignRises step2 step3 step4 step5 weighed afterWeighing step6 newItem detecting step7 runningTick guarded fromStep3 sampled ran stopping alarmed noted recorded codeCleared memorySound statusWrong runUnsafe runOccupied nothingToCancel refusalOf inputOf accepted stepOf tallyFit hasRoom largestWith smallestWith countedWith weighedWith added part tallyOf unsigned tallyAtFit withTally zeros settled waiting full sorting anyEnds sorterTicked placed queued sorterOff waitsFit sorterFit delayFallen signalled foreignTicked flagUsed marked firstOff recordRanged limitsOrdered gradeOf setupRanged edgeAgrees sampleRanged eventRanged eventAgrees nearest rounded
+unfolding run runFrom freshLine busy conveyor sorterOn lastFit sensorFit errorKnown itemFit undoFit statusFit lineFit halted halting replied sortedFor errorFor stoppedFor given orCrash verdictOf judged step1 edgeMade foreignRises step2 step3 step4 step5 weighed afterWeighing step6 newItem detecting step7 runningTick guarded fromStep3 sampled ran stopping alarmed noted recorded codeCleared memorySound statusWrong runUnsafe runOccupied nothingToCancel refusalOf inputOf accepted stepOf tallyFit hasRoom largestWith smallestWith countedWith weighedWith added part tallyOf unsigned tallyAtFit withTally zeros settled anyOf allOf without waitsOf laid waiting isEmpty isFull queueTicked oneEnds joined queueFit full sorting sorterTicked queued sorterOff sorterFit delayFallen signalled foreignTicked flagUsed marked firstOff recordRanged limitsOrdered gradeOf setupRanged edgeAgrees sampleRanged eventRanged eventAgrees nearest rounded
 returns c = refl
 
 pub worked-example-spec : {M : Type 1} → statement M

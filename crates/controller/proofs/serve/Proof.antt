@@ -83,7 +83,7 @@ use Rattle.controller.proofs.not_event.Met as not-event-thm
 use Rattle.walks.proofs.Lending.{ref, tyOf, recell, use4, use6, let-go, lend-shr, back-shr}
 use Rattle.walks.proofs.Clauses.{says4}
 use Rattle.walks.proofs.Leaving.{locals-at, leaves}
-use Rattle.walks.proofs.Fields.{Field, field-of, field-place, field-cell}
+use Rattle.walks.proofs.Fields.{Field, field-of, tag-place, field-place, field-cell}
 use Rattle.controller.proofs.Variants.{After, AsEvent, AsOther, after-step, event-or}
 use Rattle.controller.proofs.Memories.{Apply, to-apply, asks-apply, ended-apply}
 use Rattle.controller.proofs.Texts.{ReadLine, to-read, asks-read, ended-read}
@@ -117,20 +117,27 @@ ReadTy = tyOf Mir.locals 7
 abbrev EventTy : Ty
 EventTy = tyOf Mir.locals 8
 
+-- the answer, the line and what `apply` answers. A walk writes these types out where one is stored or read: they are dear to find
+abbrev ServedTy : Ty
+ServedTy = tyOf Mir.locals 0
+
+abbrev LineTy : Ty
+LineTy = tyOf Mir.locals 1
+
+abbrev StepTy : Ty
+StepTy = tyOf Mir.locals 10
+
 event-field : Field ReadTy 0 0
 event-field = field-of ReadTy 0 0 tt
 
 module _ {M : Type 1} {𝓤 : URA M} {H : Heap 𝓤} {A : Atoms 𝓤} {K : Type 0} {W : Given 𝓤 H A} {Γ : List (Item 𝓤)} where
-  tag-place : K → {E : Env 𝓤 H} {b : ℕ} → Goes K W Γ E (ReadTy, b, 0) (variant 0 ∷ field 0 ∷ []) (tyInt w8, b, 0)
-  tag-place t = vrt t refl (fld t refl (stop t))
-
   tag-cell : K → (n : ℕ) {q : Share} {b k : ℕ} {vs : Fields} → nth 𝓤 H A n Γ ≡ ‵ (fat q ReadTy b 0 (live k vs)) → Reads K W Γ (tyInt w8) b 0 (vint w8 k)
   tag-cell t n {q} {b} {k} {vs} e = look-tag t n (subst (λ (i : Item 𝓤). Part K W i q ReadTy b 0 (live k vs) (λ u. ‵ (fat q ReadTy b 0 u))) (sym e) (whole t))
 
-step-typed : {M : Type 1} (𝓤 : URA M) (H : Heap 𝓤) (A : Atoms 𝓤) (W : Given 𝓤 H A) (r : Step) (v : Val) → Is N.the-row r (v ∷ []) → Typed (tyOf Mir.locals 10) v
+step-typed : {M : Type 1} (𝓤 : URA M) (H : Heap 𝓤) (A : Atoms 𝓤) (W : Given 𝓤 H A) (r : Step) (v : Val) → Is N.the-row r (v ∷ []) → Typed StepTy v
 step-typed 𝓤 H A W r v g = LL.lawful N.the-type N′.the-laws 𝓤 H A W .typed r (v ∷ []) g .0
 
-served-typed : {M : Type 1} (𝓤 : URA M) (H : Heap 𝓤) (A : Atoms 𝓤) (W : Given 𝓤 H A) (r : Served) (v : Val) → Is O.the-row r (v ∷ []) → Typed (tyOf Mir.locals 0) v
+served-typed : {M : Type 1} (𝓤 : URA M) (H : Heap 𝓤) (A : Atoms 𝓤) (W : Given 𝓤 H A) (r : Served) (v : Val) → Is O.the-row r (v ∷ []) → Typed ServedTy v
 served-typed 𝓤 H A W r v g = LL.lawful O.the-type O′.the-laws 𝓤 H A W .typed r (v ∷ []) g .0
 
 event-typed : {M : Type 1} (𝓤 : URA M) (H : Heap 𝓤) (A : Atoms 𝓤) (W : Given 𝓤 H A) (e : Event) (v : Val) → Is E.the-row e (v ∷ []) → Typed EventTy v
@@ -198,7 +205,7 @@ module _ {M : Type 1} (𝓤 : URA M) (H : Heap 𝓤) (A : Atoms 𝓤) (W : Given
         qed W ((‵ (flft κ q) ⊛ (‵ (flft κ₁ q₁) ⊛ (‵ (flft κ₂ q₂) ⊛ (‵ (flft κ₃ q₃) ⊛ ‵ ftrue)))) ∷ ‵ (owns (L.the-row ∷ MutSlice (named 0) κ R ∷ MutSlice (named 1) κ₁ i64 ∷ ShrSlice (named 2) κ₂ u8 ∷ MutSlice (named 3) κ₃ u8 ∷ usize ∷ []) a at) ∷ []) ∵
         enter ! C Λ code.function (lv ∷ s ∷ s₁ ∷ s₂ ∷ s₃ ∷ vint w64 pos ∷ []) _ $
         alloc1 ! (λ l₀. alloc1 ! (λ l₁. alloc1 ! (λ l₂. alloc1 ! (λ l₃. alloc1 ! (λ l₄. alloc1 ! (λ l₅. alloc1 ! (λ l₆. alloc1 ! (λ l₇. alloc1 ! (λ l₈. alloc1 ! (λ l₉. alloc1 ! (λ l₁₀. alloc1 ! (λ l₁₁. alloc1 ! (λ l₁₂. alloc1 ! (λ l₁₃. alloc1 ! (λ l₁₄. alloc1 ! (λ l₁₅. alloc1 ! (λ l₁₆. alloc1 ! (λ l₁₇. alloc1 ! (λ l₁₈. alloc1 ! (λ l₁₉. alloc1 ! (λ l₂₀. alloc1 ! (λ l₂₁. alloc1 ! (λ l₂₂. alloc0 ! $ params1 ! $
-        pass1 ! (init ! 42 refl line-typed) $ pass1 ! (init ! 40 refl (tt, (tt, (record { fits = room .0 }, tt)))) $ pass1 ! (init ! 38 refl (tt, (tt, (record { fits = room₁ .0 }, tt)))) $
+        pass1 ! (init ! 42 {τ = LineTy} {v = lv} refl line-typed) $ pass1 ! (init ! 40 refl (tt, (tt, (record { fits = room .0 }, tt)))) $ pass1 ! (init ! 38 refl (tt, (tt, (record { fits = room₁ .0 }, tt)))) $
         pass1 ! (init ! 36 refl (tt, (tt, (record { fits = room₂ .0 }, tt)))) $ pass1 ! (init ! 34 refl (tt, (tt, (record { fits = room₃ .0 }, tt)))) $ pass1 ! (init ! 32 refl (tt, record { fits = pos-fits })) $ pass0 ! $
         -- what the plain parameters own is let go, and the slices and tokens are put in front
         move ! (47 ∷ []) $ fsplit ! $ drop ! $ fsplit ! $ move ! (1 ∷ []) $ fsplit ! $ move ! (1 ∷ []) $ fsplit ! $ move ! (1 ∷ []) $ fsplit ! $ move ! (1 ∷ []) $ drop ! $
@@ -211,9 +218,9 @@ module _ {M : Type 1} (𝓤 : URA M) (H : Heap 𝓤) (A : Atoms 𝓤) (W : Given
         use1 W (later (given (w ≡ D′.lowered said) (given (Is D.the-row said (D′.lowered said ∷ [])) (‵ (flft κ₂ q₂))))) (ended-read 𝓤 H A mem run W κ₂ q₂ b₂ o₂ (length tx) γ₂ tx w) $ await ! tt $ learn ! (λ e. learn ! (λ said-is. move ! (2 ∷ 3 ∷ 4 ∷ 5 ∷ 1 ∷ 0 ∷ []) $
         lands-at ! e $ land ! (from ! (stop !)) (init ! 38 refl (EL.lawful D.the-type D′.the-laws 𝓤 H A W tt .typed said _ said-is .0)) $
         recell ! 38 (v .1 .val) refl $
-        first ! $ switches ! (load ! (from ! (tag-place !)) (tag-cell ! 38 refl)) (
+        first ! $ switches ! (load ! (from ! (tag-place ! event-field)) (tag-cell ! 38 refl)) (
           (λ _. assigns-last ! (of-opd ! (load ! (from ! (field-place ! event-field)) (field-cell ! 38 event-field refl))) (from ! (stop !))
-              (init ! 36 refl (event-typed 𝓤 H A W (v .0) (v .1 .value) (v .1 .holds said-is))) $
+              (init ! 36 {τ = EventTy} {v = v .1 .value} refl (event-typed 𝓤 H A W (v .0) (v .1 .value) (v .1 .holds said-is))) $
               exec ! C Λ (locals-at 𝓤 H Mir.locals (l₀ ∷ l₁ ∷ l₂ ∷ l₃ ∷ l₄ ∷ l₅ ∷ l₆ ∷ l₇ ∷ l₈ ∷ l₉ ∷ l₁₀ ∷ l₁₁ ∷ l₁₂ ∷ l₁₃ ∷ l₁₄ ∷ l₁₅ ∷ l₁₆ ∷ l₁₇ ∷ l₁₈ ∷ l₁₉ ∷ l₂₀ ∷ l₂₁ ∷ l₂₂ ∷ [])) Mir.t-3 (atRet (locals-at 𝓤 H Mir.locals (l₀ ∷ l₁ ∷ l₂ ∷ l₃ ∷ l₄ ∷ l₅ ∷ l₆ ∷ l₇ ∷ l₈ ∷ l₉ ∷ l₁₀ ∷ l₁₁ ∷ l₁₂ ∷ l₁₃ ∷ l₁₄ ∷ l₁₅ ∷ l₁₆ ∷ l₁₇ ∷ l₁₈ ∷ l₁₉ ∷ l₂₀ ∷ l₂₁ ∷ l₂₂ ∷ [])) Post) $
               -- `apply`
               assigns ! (addr ! (from ! (fld ! refl (hop ! (look-in ! 48 (sub ! 0 refl (whole !))) (stop !))))) (from ! (stop !)) (init ! 18 refl (tt, tt)) $
@@ -222,23 +229,23 @@ module _ {M : Type 1} (𝓤 : URA M) (H : Heap 𝓤) (A : Atoms 𝓤) (W : Given
               assigns ! (agg ! (and-then ! (load ! (from ! (stop !)) (look ! 14 refl)) (and-then ! (load ! (from ! (fld ! refl (stop !))) (look-in ! 46 (sub ! 1 refl (whole !)))) (no-more !)))) (from ! (stop !)) (init ! 12 refl (tt, (tt, (record { fits = room₁ .0 }, tt)))) $
               use4 W (raw (Apply 𝓤 H A mem run .pre (to-apply 𝓤 H A mem run W κ κ₁ q q₁ b o (length ys) γ ys b₁ o₁ (length ts) γ₁ ts line (v .0) lv (v .1 .value) line-is (v .1 .holds said-is)))) (asks-apply 𝓤 H A mem run W κ κ₁ q q₁ b o (length ys) γ ys b₁ o₁ (length ts) γ₁ ts line (v .0) lv (v .1 .value) line-is (v .1 .holds said-is)) $
               -- [what `apply` asks; the text; κ₂'s token; the output; κ₃'s; _22; …]
-              calls-at ! fm (Apply 𝓤 H A mem run) known-apply (to-apply 𝓤 H A mem run W κ κ₁ q q₁ b o (length ys) γ ys b₁ o₁ (length ts) γ₁ ts line (v .0) lv (v .1 .value) line-is (v .1 .holds said-is)) (and-then ! (load ! (from ! (stop !)) (look ! 47 refl)) (and-then ! (load ! (from ! (stop !)) (look ! 13 refl)) (and-then ! (load ! (from ! (stop !)) (look ! 9 refl)) (and-then ! (load ! (from ! (stop !)) (look ! 33 refl)) (no-more !))))) (λ w₁.
+              calls-at ! fm (Apply 𝓤 H A mem run) known-apply (to-apply 𝓤 H A mem run W κ κ₁ q q₁ b o (length ys) γ ys b₁ o₁ (length ts) γ₁ ts line (v .0) lv (v .1 .value) line-is (v .1 .holds said-is)) (and-then ! (load ! (from ! (stop !)) (look ! 47 {τ = LineTy} {v = lv} refl)) (and-then ! (load ! (from ! (stop !)) (look ! 13 refl)) (and-then ! (load ! (from ! (stop !)) (look ! 9 refl)) (and-then ! (load ! (from ! (stop !)) (look ! 33 {τ = EventTy} {v = v .1 .value} refl)) (no-more !))))) (λ w₁.
               use1 W (later (some (λ (made : Step). some (λ (xs : List Settings). some (λ (ws : List ℤ). given (made ≡ stepIn (stepOn line ys ts (v .0))) (given (xs ≡ settingsAfter line ys ts (v .0)) (given (ws ≡ stepOn line ys ts (v .0) .tallies)
               (given (Is N.the-row made (w₁ ∷ [])) (given (length xs ≡ length ys) (given (length ws ≡ length ts) (‵ (finally R γ xs) ⊛ (‵ (flft κ q) ⊛ (‵ (finally i64 γ₁ ws) ⊛ ‵ (flft κ₁ q₁))))))))))))))
               (ended-apply 𝓤 H A mem run W κ κ₁ q q₁ b o (length ys) γ ys b₁ o₁ (length ts) γ₁ ts line (v .0) lv (v .1 .value) line-is (v .1 .holds said-is) w₁) $ await ! tt $ pick ! (λ made. pick ! (λ xs. pick ! (λ ws. learn ! (λ d. learn ! (λ d₁. learn ! (λ d₂. learn ! (λ made-is. learn ! (λ m. learn ! (λ m₁.
               split ! $ move ! (1 ∷ []) $ split ! $ move ! (1 ∷ []) $ split ! $ move ! (3 ∷ 2 ∷ 0 ∷ 1 ∷ []) $
               -- [the last records; κ's token; the last tallies; κ₁'s; the text; κ₂'s; the output; κ₃'s; _22; …]
-              land ! (from ! (stop !)) (init ! 32 refl (step-typed 𝓤 H A W made w₁ made-is)) $
+              land ! (from ! (stop !)) (init ! 32 {τ = StepTy} {v = w₁} refl (step-typed 𝓤 H A W made w₁ made-is)) $
               -- `answered`
               assigns ! (addr ! (from ! (fld ! refl (hop ! (look-in ! 42 (sub ! 0 refl (whole !))) (stop !))))) (from ! (stop !)) (init ! 10 refl (tt, tt)) $
               assigns ! (agg ! (and-then ! (load ! (from ! (stop !)) (look ! 10 refl)) (and-then ! (load ! (from ! (fld ! refl (stop !))) (look-in ! 42 (sub ! 1 refl (whole !)))) (no-more !)))) (from ! (stop !)) (init ! 8 refl (tt, (tt, (record { fits = room₃ .0 }, tt)))) $
               move ! (6 ∷ 7 ∷ []) $ use2 W (raw (Answered 𝓤 H A mem run .pre (to-answered 𝓤 H A mem run W κ₃ q₃ b₃ o₃ (length us) γ₃ us pos pos-fits made w₁ made-is))) (asks-answered 𝓤 H A mem run W κ₃ q₃ b₃ o₃ (length us) γ₃ us pos pos-fits made w₁ made-is) $
-              calls-at ! fm (Answered 𝓤 H A mem run) known-answered (to-answered 𝓤 H A mem run W κ₃ q₃ b₃ o₃ (length us) γ₃ us pos pos-fits made w₁ made-is) (and-then ! (load ! (from ! (stop !)) (look ! 31 refl)) (and-then ! (load ! (from ! (stop !)) (look ! 7 refl)) (and-then ! (load ! (from ! (stop !)) (look ! 39 refl)) (no-more !)))) (λ w₂.
+              calls-at ! fm (Answered 𝓤 H A mem run) known-answered (to-answered 𝓤 H A mem run W κ₃ q₃ b₃ o₃ (length us) γ₃ us pos pos-fits made w₁ made-is) (and-then ! (load ! (from ! (stop !)) (look ! 31 {τ = StepTy} {v = w₁} refl)) (and-then ! (load ! (from ! (stop !)) (look ! 7 refl)) (and-then ! (load ! (from ! (stop !)) (look ! 39 refl)) (no-more !)))) (λ w₂.
               use1 W (later (given (Is O.the-row (servedStep made us pos) (w₂ ∷ [])) (given (length (putAt pos (replyAnswer (made .reply)) us) ≡ length us) (‵ (finally u8 γ₃ (putAt pos (replyAnswer (made .reply)) us)) ⊛ ‵ (flft κ₃ q₃)))))
               (ended-answered 𝓤 H A mem run W κ₃ q₃ b₃ o₃ (length us) γ₃ us pos pos-fits made w₁ made-is w₂) $ await ! tt $ learn ! (λ r-is. learn ! (λ m₃. split ! $
               -- [the last output; κ₃'s token; the last records; κ's; the last tallies; κ₁'s; the text; κ₂'s; _22; …]
-              land ! (from ! (stop !)) (init ! 52 refl (served-typed 𝓤 H A W (servedStep made us pos) w₂ r-is)) $
-              returns ! {Kf = Post} {r = w₂} (look ! 52 refl) $
+              land ! (from ! (stop !)) (init ! 52 {τ = ServedTy} {v = w₂} refl (served-typed 𝓤 H A W (servedStep made us pos) w₂ r-is)) $
+              returns ! {Kf = Post} {r = w₂} (look ! 52 {τ = ServedTy} {v = w₂} refl) $
               move ! (52 ∷ 53 ∷ 50 ∷ 51 ∷ 48 ∷ 49 ∷ 46 ∷ 47 ∷ 44 ∷ 45 ∷ 42 ∷ 43 ∷ 40 ∷ 41 ∷ 38 ∷ 39 ∷ 36 ∷ 37 ∷ 34 ∷ 35 ∷ 32 ∷ 33 ∷ 30 ∷ 31 ∷ 28 ∷ 29 ∷ 26 ∷ 27 ∷ 24 ∷ 25 ∷ 22 ∷ 23 ∷ 20 ∷ 21 ∷ 18 ∷ 19 ∷ 16 ∷ 17 ∷ 14 ∷ 15 ∷ 12 ∷ 13 ∷ 10 ∷ 11 ∷ 8 ∷ 9 ∷ []) $
               leaves ! (some-of _ ∷ some-of _ ∷ some-of _ ∷ some-of _ ∷ some-of _ ∷ some-of _ ∷ some-of _ ∷ some-of _ ∷ some-of _ ∷ none-of ∷ some-of _ ∷ none-of ∷ none-of ∷ none-of ∷ none-of ∷ none-of ∷ none-of ∷ some-of _ ∷ some-of _ ∷ some-of _ ∷ some-of _ ∷ some-of _ ∷ some-of _ ∷ []) $
               keep ! (2 ∷ 3 ∷ 4 ∷ 5 ∷ 6 ∷ 7 ∷ 0 ∷ 1 ∷ []) $ by ! (exits (made .line) w₂ xs ws (replyAnswer (made .reply)) (after-step (v .1) line ys xs ts ws made d d₁ d₂) r-is m m₁ m₃))))))))))))))),
@@ -252,7 +259,7 @@ module _ {M : Type 1} (𝓤 : URA M) (H : Heap 𝓤) (A : Atoms 𝓤) (W : Given
         qed W ((‵ (flft κ q) ⊛ (‵ (flft κ₁ q₁) ⊛ (‵ (flft κ₂ q₂) ⊛ (‵ (flft κ₃ q₃) ⊛ ‵ ftrue)))) ∷ ‵ (owns (L.the-row ∷ MutSlice (named 0) κ R ∷ MutSlice (named 1) κ₁ i64 ∷ ShrSlice (named 2) κ₂ u8 ∷ MutSlice (named 3) κ₃ u8 ∷ usize ∷ []) a at) ∷ []) ∵
         enter ! C Λ code.function (lv ∷ s ∷ s₁ ∷ s₂ ∷ s₃ ∷ vint w64 pos ∷ []) _ $
         alloc1 ! (λ l₀. alloc1 ! (λ l₁. alloc1 ! (λ l₂. alloc1 ! (λ l₃. alloc1 ! (λ l₄. alloc1 ! (λ l₅. alloc1 ! (λ l₆. alloc1 ! (λ l₇. alloc1 ! (λ l₈. alloc1 ! (λ l₉. alloc1 ! (λ l₁₀. alloc1 ! (λ l₁₁. alloc1 ! (λ l₁₂. alloc1 ! (λ l₁₃. alloc1 ! (λ l₁₄. alloc1 ! (λ l₁₅. alloc1 ! (λ l₁₆. alloc1 ! (λ l₁₇. alloc1 ! (λ l₁₈. alloc1 ! (λ l₁₉. alloc1 ! (λ l₂₀. alloc1 ! (λ l₂₁. alloc1 ! (λ l₂₂. alloc0 ! $ params1 ! $
-        pass1 ! (init ! 42 refl line-typed) $ pass1 ! (init ! 40 refl (tt, (tt, (record { fits = room .0 }, tt)))) $ pass1 ! (init ! 38 refl (tt, (tt, (record { fits = room₁ .0 }, tt)))) $
+        pass1 ! (init ! 42 {τ = LineTy} {v = lv} refl line-typed) $ pass1 ! (init ! 40 refl (tt, (tt, (record { fits = room .0 }, tt)))) $ pass1 ! (init ! 38 refl (tt, (tt, (record { fits = room₁ .0 }, tt)))) $
         pass1 ! (init ! 36 refl (tt, (tt, (record { fits = room₂ .0 }, tt)))) $ pass1 ! (init ! 34 refl (tt, (tt, (record { fits = room₃ .0 }, tt)))) $ pass1 ! (init ! 32 refl (tt, record { fits = pos-fits })) $ pass0 ! $
         -- what the plain parameters own is let go, and the slices and tokens are put in front
         move ! (47 ∷ []) $ fsplit ! $ drop ! $ fsplit ! $ move ! (1 ∷ []) $ fsplit ! $ move ! (1 ∷ []) $ fsplit ! $ move ! (1 ∷ []) $ fsplit ! $ move ! (1 ∷ []) $ drop ! $
@@ -265,7 +272,7 @@ module _ {M : Type 1} (𝓤 : URA M) (H : Heap 𝓤) (A : Atoms 𝓤) (W : Given
         use1 W (later (given (w ≡ D′.lowered said) (given (Is D.the-row said (D′.lowered said ∷ [])) (‵ (flft κ₂ q₂))))) (ended-read 𝓤 H A mem run W κ₂ q₂ b₂ o₂ (length tx) γ₂ tx w) $ await ! tt $ learn ! (λ e. learn ! (λ said-is. move ! (2 ∷ 3 ∷ 4 ∷ 5 ∷ 1 ∷ 0 ∷ []) $
         lands-at ! e $ land ! (from ! (stop !)) (init ! 38 refl (EL.lawful D.the-type D′.the-laws 𝓤 H A W tt .typed said _ said-is .0)) $
         recell ! 38 (r .tagged .val) refl $
-        first ! $ switches ! (load ! (from ! (tag-place !)) (tag-cell ! 38 refl)) (
+        first ! $ switches ! (load ! (from ! (tag-place ! event-field)) (tag-cell ! 38 refl)) (
           (λ h. absurd (r .tagged .none h)),
           (
             (λ _. recell ! 38 (sym (r .tagged .val)) refl $
@@ -289,8 +296,8 @@ module _ {M : Type 1} (𝓤 : URA M) (H : Heap 𝓤) (A : Atoms 𝓤) (W : Given
                 use1 W (‵ (finally i64 γ₁ ts)) (let-go 𝓤 H A W i64 (named 1) κ₁ (ref b₁ o₁ γ₁ ts) (s₁ ∷ [])) $ move ! (2 ∷ []) $ use1 W (‵ (finally R γ ys)) (let-go 𝓤 H A W R (named 0) κ (ref b o γ ys) (s ∷ [])) $
                 -- [the last records; the last tallies; κ₁'s token; κ's; the last output; κ₃'s; the text; κ₂'s; _22; …]
                 lands-at ! e₁ $ land ! (from ! (stop !)) (init ! 34 refl (tt, record { fits = fits })) $
-                assigns ! (agg ! (and-then ! (load ! (from ! (stop !)) (look ! 50 refl)) (and-then ! (load ! (from ! (stop !)) (look ! 34 refl)) (no-more !)))) (from ! (stop !)) (init ! 52 refl (served-typed 𝓤 H A W (record { line = line; at = endAt pos other us }) (servedVal lv (endAt pos other us)) (served-is line lv _ line-is fits))) $
-                returns-within ! Post refl (look ! 52 refl) $ move ! (52 ∷ 53 ∷ 50 ∷ 51 ∷ 48 ∷ 49 ∷ 46 ∷ 47 ∷ 44 ∷ 45 ∷ 42 ∷ 43 ∷ 40 ∷ 41 ∷ 38 ∷ 39 ∷ 36 ∷ 37 ∷ 34 ∷ 35 ∷ 32 ∷ 33 ∷ 30 ∷ 31 ∷ 28 ∷ 29 ∷ 26 ∷ 27 ∷ 24 ∷ 25 ∷ 22 ∷ 23 ∷ 20 ∷ 21 ∷ 18 ∷ 19 ∷ 16 ∷ 17 ∷ 14 ∷ 15 ∷ 12 ∷ 13 ∷ 10 ∷ 11 ∷ 8 ∷ 9 ∷ []) $
+                assigns ! (agg ! (and-then ! (load ! (from ! (stop !)) (look ! 50 {τ = LineTy} {v = lv} refl)) (and-then ! (load ! (from ! (stop !)) (look ! 34 refl)) (no-more !)))) (from ! (stop !)) (init ! 52 {τ = ServedTy} {v = servedVal lv (endAt pos other us)} refl (served-typed 𝓤 H A W (record { line = line; at = endAt pos other us }) (servedVal lv (endAt pos other us)) (served-is line lv _ line-is fits))) $
+                returns-within ! Post refl (look ! 52 {τ = ServedTy} {v = servedVal lv (endAt pos other us)} refl) $ move ! (52 ∷ 53 ∷ 50 ∷ 51 ∷ 48 ∷ 49 ∷ 46 ∷ 47 ∷ 44 ∷ 45 ∷ 42 ∷ 43 ∷ 40 ∷ 41 ∷ 38 ∷ 39 ∷ 36 ∷ 37 ∷ 34 ∷ 35 ∷ 32 ∷ 33 ∷ 30 ∷ 31 ∷ 28 ∷ 29 ∷ 26 ∷ 27 ∷ 24 ∷ 25 ∷ 22 ∷ 23 ∷ 20 ∷ 21 ∷ 18 ∷ 19 ∷ 16 ∷ 17 ∷ 14 ∷ 15 ∷ 12 ∷ 13 ∷ 10 ∷ 11 ∷ 8 ∷ 9 ∷ []) $
                 leaves ! (some-of _ ∷ some-of _ ∷ some-of _ ∷ some-of _ ∷ some-of _ ∷ some-of _ ∷ some-of _ ∷ some-of _ ∷ none-of ∷ some-of _ ∷ none-of ∷ some-of _ ∷ some-of _ ∷ some-of _ ∷ some-of _ ∷ some-of _ ∷ some-of _ ∷ none-of ∷ none-of ∷ none-of ∷ none-of ∷ none-of ∷ none-of ∷ []) $
                 keep ! (0 ∷ 3 ∷ 1 ∷ 2 ∷ 6 ∷ 7 ∷ 4 ∷ 5 ∷ []) $ by ! (exits line (servedVal lv (endAt pos other us)) ys ts other (r .after line ys ts) (served-is line lv _ line-is fits) refl refl m₃)))))))),
             (λ n. absurd (n .1 (r .tagged .one))),

@@ -1,15 +1,15 @@
--- `fit` tests the waits and the on-time. Assumes nothing.
-use borrow.Author.Needs.{needs}
+-- `fit` tests the queue and the on-time. Assumes nothing.
 use Rattle.device.specs.Sorter.{sorterFit}
+use borrow.Author.Needs.{needs}
 use Rattle.device.proofs.sorter.Sorter.fit.Statement.{statement}
 use Rattle.device.proofs.sorter.Sorter.fit.Tie as tie
 
-waits-fit-requires : tie.Need-waits-fit-requires
-waits-fit-requires c κs = search needs
+fit-requires : tie.Need-fit-requires
+fit-requires c κs = search needs
 
 returns : tie.Need-returns
 unfolding sorterFit
-returns c = simp (c .before .waits-fit .ensures)
+returns c = simp (c .before .fit .ensures)
 
 pub fit-spec : {M : Type 1} → statement M
-fit-spec = tie.close (tie.spec waits-fit-requires returns)
+fit-spec = tie.close (tie.spec fit-requires returns)

@@ -1,15 +1,15 @@
--- `queued` places the wait and leaves the on-time. Assumes nothing.
-use borrow.Author.Needs.{needs}
+-- `queued` puts the wait into the queue and leaves the on-time. Assumes nothing.
 use Rattle.device.specs.Sorter.{queued}
+use borrow.Author.Needs.{needs}
 use Rattle.device.proofs.sorter.Sorter.queued.Statement.{statement}
 use Rattle.device.proofs.sorter.Sorter.queued.Tie as tie
 
-placed-requires : tie.Need-placed-requires
-placed-requires c κs = search needs
+joined-requires : tie.Need-joined-requires
+joined-requires c κs = search needs
 
 returns : tie.Need-returns
 unfolding queued
-returns c = simp (c .placed .ensures)
+returns c = simp (c .joined .ensures)
 
 pub queued-spec : {M : Type 1} → statement M
-queued-spec = tie.close (tie.spec placed-requires returns)
+queued-spec = tie.close (tie.spec joined-requires returns)

@@ -1,50 +1,52 @@
--- `ticked`: all times fall, and a wait that ends sets the on-time; where nothing waits, only the on-time falls. Assumes nothing.
+-- `ticked`: a wait that ends sets the on-time, and one ends where fewer wait after the tick. Assumes nothing.
 use borrow.Author.Needs.{needs}
-use borrow.Author.Tests.{not-true}
-use mathlib.Core.Path.{sym, _∙_}
+use borrow.Author.Tests.{lt-ltb, le-ltb}
+use mathlib.Core.Bool.{true, false}
+use mathlib.Core.Path.{_≡_, ap, _∙_}
+use native.Mathlib.Omega.{arith}
+use Rattle.device.specs.Queue.{waiting, queueTicked, oneEnds}
 use Rattle.device.specs.Sorter.{sorterTicked}
-use Rattle.device.proofs.Waits.{none-falls, none-ends}
+use Rattle.device.proofs.Waits.{ends-fewer}
 use Rattle.device.proofs.sorter.Sorter.ticked.Statement.{statement}
 use Rattle.device.proofs.sorter.Sorter.ticked.Tie as tie
 
-any-waits-requires : tie.Need-any-waits-requires
-any-waits-requires c κs = search needs
+ticked-requires : tie.Need-ticked-requires
+ticked-requires c κs = search needs
 
-fallen-requires : tie.Need-fallen-requires
-fallen-requires c κs = search needs
+waiting-requires : tie.Need-waiting-requires
+waiting-requires c κs = search needs
+
+waiting-requires-2 : tie.Need-waiting-requires-2
+waiting-requires-2 c κs = search needs
 
 returns : tie.Need-returns
 unfolding sorterTicked
 returns c =
-    let h = sym (c .before .before .any-waits .ensures) ∙ not-true _ (c .before .if1 .taken) in
-    simp (c .fallen .ensures, none-falls _ h, none-ends _ h)
+    let q = c .before .before .before .before .before .args .self .queue in
+    let t = c .before .before .before .ticked .ensures in
+    let n = c .before .before .waiting .ensures ∙ ap waiting t in
+    let e : oneEnds q ≡ true = ends-fewer q ∙ lt-ltb (waiting (queueTicked q)) (waiting q) (omega (arith, n, c .before .waiting2 .ensures, c .if1 .taken)) in
+    simp (t, e)
 
-all-fallen-requires : tie.Need-all-fallen-requires
-all-fallen-requires c κs = search needs
-
-any-ends-requires : tie.Need-any-ends-requires
-any-ends-requires c κs = search needs
+fallen-requires : tie.Need-fallen-requires
+fallen-requires c κs = search needs
 
 returns-2 : tie.Need-returns-2
 unfolding sorterTicked
-returns-2 c = simp (c .before .before .all-fallen .ensures, sym (c .before .any-ends .ensures) ∙ c .if2 .taken)
-
-fallen-requires-2 : tie.Need-fallen-requires-2
-fallen-requires-2 c κs = search needs
-
-returns-3 : tie.Need-returns-3
-unfolding sorterTicked
-returns-3 c = simp (c .before .before .before .all-fallen .ensures, c .fallen2 .ensures, sym (c .before .before .any-ends .ensures) ∙ c .before .if2 .left)
+returns-2 c =
+    let q = c .before .before .before .before .before .before .args .self .queue in
+    let t = c .before .before .before .before .ticked .ensures in
+    let n = c .before .before .before .waiting .ensures ∙ ap waiting t in
+    let e : oneEnds q ≡ false = ends-fewer q ∙ le-ltb (waiting (queueTicked q)) (waiting q) (omega (arith, n, c .before .before .waiting2 .ensures, c .before .if1 .left)) in
+    simp (t, e, c .fallen .ensures)
 
 pub ticked-spec : {M : Type 1} → statement M
 ticked-spec =
     tie.close
     (tie.spec
-    any-waits-requires
-    fallen-requires
+    ticked-requires
+    waiting-requires
+    waiting-requires-2
     returns
-    all-fallen-requires
-    any-ends-requires
-    returns-2
-    fallen-requires-2
-    returns-3)
+    fallen-requires
+    returns-2)

@@ -224,11 +224,12 @@ module _ {M : Type 1} (𝓤 : URA M) (H : Heap 𝓤) (A : Atoms 𝓤) (W : Given
 
   module _ (C : Calls 𝓤 H) (Λ : Loops 𝓤 H) (fm : FmC 𝓤 H (W .laws) C) (known-get : Triple 𝓤 (C #get) (Get 𝓤 H A mem run)) (known-set : Triple 𝓤 (C #set) (Set 𝓤 H A mem run))
       (known-step : Triple 𝓤 (C #step) (Stepping 𝓤 H A mem run)) (known-storing : Triple 𝓤 (C #storing) (Telling 𝓤 H A mem run)) where
+    -- the types of the line, the event, the record and the answer are written out where one is stored or read: they are dear to find
     walk : ent 𝓤 (onEntry 𝓤 H A f.signature (κ, (κ₁, tt)) (q, (q₁, tt)) a at) (WpFn 𝓤 H C Λ code.function (lv ∷ s ∷ s₁ ∷ v ∷ []) Post)
     walk =
         qed W ((‵ (flft κ q) ⊛ (‵ (flft κ₁ q₁) ⊛ ‵ ftrue)) ∷ ‵ (owns (L.the-row ∷ MutSlice (named 0) κ R ∷ MutSlice (named 1) κ₁ i64 ∷ E.the-row ∷ []) a at) ∷ []) ∵ enter ! C Λ code.function (lv ∷ s ∷ s₁ ∷ v ∷ []) _ $
         alloc1 ! (λ l₀. alloc1 ! (λ l₁. alloc1 ! (λ l₂. alloc1 ! (λ l₃. alloc1 ! (λ l₄. alloc1 ! (λ l₅. alloc1 ! (λ l₆. alloc1 ! (λ l₇. alloc1 ! (λ l₈. alloc1 ! (λ l₉. alloc1 ! (λ l₁₀. alloc1 ! (λ l₁₁. alloc1 ! (λ l₁₂. alloc1 ! (λ l₁₃. alloc1 ! (λ l₁₄. alloc1 ! (λ l₁₅. alloc1 ! (λ l₁₆. alloc0 ! $ params1 ! $
-        pass1 ! (init ! 30 refl line-typed) $ pass1 ! (init ! 28 refl (tt, (tt, (record { fits = room .0 }, tt)))) $ pass1 ! (init ! 26 refl (tt, (tt, (record { fits = room₁ .0 }, tt)))) $ pass1 ! (init ! 24 refl ev-typed) $ pass0 ! $
+        pass1 ! (init ! 30 {τ = L′.mir} {v = lv} refl line-typed) $ pass1 ! (init ! 28 refl (tt, (tt, (record { fits = room .0 }, tt)))) $ pass1 ! (init ! 26 refl (tt, (tt, (record { fits = room₁ .0 }, tt)))) $ pass1 ! (init ! 24 {τ = E′.mir} {v = v} refl ev-typed) $ pass0 ! $
         -- what the plain parameters own is let go, and the slices and tokens are put in front
         move ! (35 ∷ []) $ fsplit ! $ drop ! $ fsplit ! $ move ! (1 ∷ []) $ fsplit ! $ move ! (1 ∷ []) $ drop ! $ move ! (36 ∷ []) $ split ! $ move ! (1 ∷ []) $ split ! $ move ! (1 ∷ []) $ drop ! $ move ! (3 ∷ 1 ∷ 2 ∷ 0 ∷ []) $
         -- [the records; κ's token; the tallies; κ₁'s token; _16; …; _0; …]: local k stands at 4 + 2 · (16 − k), and within a call's operands one lower
@@ -238,17 +239,17 @@ module _ {M : Type 1} (𝓤 : URA M) (H : Heap 𝓤) (A : Atoms 𝓤) (W : Given
         assigns ! (addr ! (from ! (fld ! refl (hop ! (look-in ! 32 (sub ! 0 refl (whole !))) (stop !))))) (from ! (stop !)) (init ! 16 refl (tt, tt)) $
         assigns ! (agg ! (and-then ! (load ! (from ! (stop !)) (look ! 16 refl)) (and-then ! (load ! (from ! (fld ! refl (stop !))) (look-in ! 32 (sub ! 1 refl (whole !)))) (no-more !)))) (from ! (stop !)) (init ! 14 refl (tt, (tt, (record { fits = room .0 }, tt)))) $
         gets 𝓤 H A W mem run (named 0) κ q γ b o (length ys) ! fm known-get ys (line .code) room refl code-fits (and-then ! (load ! (from ! (stop !)) (look ! 13 refl)) (and-then ! (load ! (from ! (fld ! {τ = tyInt w64} {d = 16} refl (stop !))) (look-in ! 33 (sub ! 2 {τ = tyInt w64} {d = 16} refl (whole !)))) (no-more !))) (λ cur-is.
-        land ! (from ! (stop !)) (init ! 24 refl (LL.lawful T.the-type T′.the-laws 𝓤 H A W .typed cur _ cur-is .0)) $
+        land ! (from ! (stop !)) (init ! 24 {τ = T′.mir} {v = mach cur} refl (LL.lawful T.the-type T′.the-laws 𝓤 H A W .typed cur _ cur-is .0)) $
         -- `step`
         assigns ! (addr ! (from ! (fld ! refl (hop ! (look-in ! 30 (sub ! 0 refl (whole !))) (stop !))))) (from ! (stop !)) (init ! 12 refl (tt, tt)) $
         assigns ! (agg ! (and-then ! (load ! (from ! (stop !)) (look ! 12 refl)) (and-then ! (load ! (from ! (fld ! refl (stop !))) (look-in ! 30 (sub ! 1 refl (whole !)))) (no-more !)))) (from ! (stop !)) (init ! 10 refl (tt, (tt, (record { fits = room₁ .0 }, tt)))) $
         move ! (2 ∷ 3 ∷ []) $ use2 W (raw (Stepping 𝓤 H A mem run .pre to-step)) (step-asks cur-is) $
-        calls-at ! fm (Stepping 𝓤 H A mem run) known-step to-step (and-then ! (load ! (from ! (stop !)) (look ! 33 refl)) (and-then ! (load ! (from ! (stop !)) (look ! 25 refl)) (and-then ! (load ! (from ! (stop !)) (look ! 23 refl)) (and-then ! (load ! (from ! (stop !)) (look ! 9 refl)) (and-then ! (load ! (from ! (stop !)) (look ! 27 refl)) (no-more !)))))) (λ u.
+        calls-at ! fm (Stepping 𝓤 H A mem run) known-step to-step (and-then ! (load ! (from ! (stop !)) (look ! 33 {τ = L′.mir} {v = lv} refl)) (and-then ! (load ! (from ! (stop !)) (look ! 25 refl)) (and-then ! (load ! (from ! (stop !)) (look ! 23 {τ = T′.mir} {v = mach cur} refl)) (and-then ! (load ! (from ! (stop !)) (look ! 9 refl)) (and-then ! (load ! (from ! (stop !)) (look ! 27 {τ = E′.mir} {v = v} refl)) (no-more !)))))) (λ u.
         use1 W (later (some (λ (r : Step). given (r ≡ out) (given (Is N.the-row r (u ∷ [])) (given (length us ≡ length ts) (‵ (finally i64 γ₁ us) ⊛ ‵ (flft κ₁ q₁))))))) (step-ended u) $ await ! tt $ pick ! (λ r. learn ! (λ e. learn ! (λ r-is. learn ! (λ l. split ! $ move ! (2 ∷ 3 ∷ []) $
-        land ! (from ! (stop !)) (init ! 22 refl (step-typed r u r-is)) $
+        land ! (from ! (stop !)) (init ! 22 {τ = N′.mir} {v = u} refl (step-typed r u r-is)) $
         -- `storing_for`
         use0 W (raw (Telling 𝓤 H A mem run .pre (to-storing r u r-is))) (storing-asks r u r-is cur-is) $
-        calls-at ! fm (Telling 𝓤 H A mem run) known-storing (to-storing r u r-is) (and-then ! (load ! (from ! (stop !)) (look ! 23 refl)) (and-then ! (load ! (from ! (stop !)) (look ! 27 refl)) (and-then ! (load ! (from ! (stop !)) (look ! 25 refl)) (and-then ! (load ! (from ! (stop !)) (look ! 29 refl)) (no-more !))))) (λ w.
+        calls-at ! fm (Telling 𝓤 H A mem run) known-storing (to-storing r u r-is) (and-then ! (load ! (from ! (stop !)) (look ! 23 {τ = N′.mir} {v = u} refl)) (and-then ! (load ! (from ! (stop !)) (look ! 27 refl)) (and-then ! (load ! (from ! (stop !)) (look ! 25 {τ = T′.mir} {v = mach cur} refl)) (and-then ! (load ! (from ! (stop !)) (look ! 29 {τ = E′.mir} {v = v} refl)) (no-more !))))) (λ w.
         use1 W (later (given (w ≡ O′.lowered (kept r)) (given (Is O.the-row (kept r) (O′.lowered (kept r) ∷ [])) (‵ ftrue)))) (storing-ended r u r-is w) $ await ! tt $ learn ! (λ e₁. learn ! (λ z-is. drop ! $
         lands-at ! e₁ $ land ! (from ! (stop !)) (init ! 20 refl (LL.lawful O.the-type O′.the-laws 𝓤 H A W .typed (kept r) _ z-is .0)) $
         -- `records::write`
@@ -257,9 +258,9 @@ module _ {M : Type 1} (𝓤 : URA M) (H : Heap 𝓤) (A : Atoms 𝓤) (W : Given
         sets 𝓤 H A W mem run (named 0) κ q γ b o (length ys) ! fm known-set ys (kept r .code) (kept r .settings) room refl (stored-fits (kept r) z-is) (stored-is (kept r) z-is)
         (and-then ! (load ! (from ! (stop !)) (look ! 3 refl)) (and-then ! (load ! (from ! (fld ! {τ = tyInt w64} {d = 0} refl (stop !))) (look-in ! 19 (sub ! 0 {τ = tyInt w64} {d = 0} refl (whole !)))) (and-then ! (load ! (from ! (fld ! {τ = T′.mir} {d = 8} refl (stop !))) (look-in ! 19 (sub ! 1 {τ = T′.mir} {d = 8} refl (whole !)))) (no-more !)))) (
         land ! (from ! (stop !)) (init ! 8 refl (tt, tt)) $
-        assigns ! (of-opd ! (load ! (from ! (stop !)) (look ! 22 refl))) (from ! (stop !)) (init ! 36 refl (step-typed r u r-is)) $
-        returns ! (look ! 36 refl) $
-        move ! (36 ∷ 37 ∷ 34 ∷ 35 ∷ 32 ∷ 33 ∷ 30 ∷ 31 ∷ 28 ∷ 29 ∷ 26 ∷ 27 ∷ 24 ∷ 25 ∷ 22 ∷ 23 ∷ 20 ∷ 21 ∷ 18 ∷ 19 ∷ 16 ∷ 17 ∷ 14 ∷ 15 ∷ 12 ∷ 13 ∷ 10 ∷ 11 ∷ 8 ∷ 9 ∷ 6 ∷ 7 ∷ 4 ∷ 5 ∷ []) $ leaves ! (some-of _ ∷ some-of _ ∷ some-of _ ∷ some-of _ ∷ some-of _ ∷ some-of _ ∷ some-of _ ∷ some-of _ ∷ some-of _ ∷ some-of _ ∷ some-of _ ∷ some-of _ ∷ some-of _ ∷ some-of _ ∷ some-of _ ∷ some-of _ ∷ some-of _ ∷ []) $
+        assigns ! (of-opd ! (load ! (from ! (stop !)) (look ! 22 {τ = N′.mir} {v = u} refl))) (from ! (stop !)) (init ! 36 {τ = N′.mir} {v = u} refl (step-typed r u r-is)) $
+        returns ! (look ! 36 {τ = N′.mir} {v = u} refl) $
+        move ! (36 ∷ 37 ∷ 34 ∷ 35 ∷ 32 ∷ 33 ∷ 30 ∷ 31 ∷ 28 ∷ 29 ∷ 26 ∷ 27 ∷ 24 ∷ 25 ∷ 22 ∷ 23 ∷ 20 ∷ 21 ∷ 18 ∷ 19 ∷ 16 ∷ 17 ∷ 14 ∷ 15 ∷ 12 ∷ 13 ∷ 10 ∷ 11 ∷ 8 ∷ 9 ∷ 6 ∷ 7 ∷ 4 ∷ 5 ∷ []) $ leaves ! (some-of u ∷ some-of lv ∷ some-of s ∷ some-of s₁ ∷ some-of v ∷ some-of _ ∷ some-of _ ∷ some-of _ ∷ some-of _ ∷ some-of _ ∷ some-of _ ∷ some-of _ ∷ some-of _ ∷ some-of _ ∷ some-of _ ∷ some-of _ ∷ some-of _ ∷ []) $
         keep ! (0 ∷ 1 ∷ 2 ∷ 3 ∷ []) $ by ! (exits r u r-is e l))))))))))))))))))))))))))))
 
 module _ {M : Type 1} (𝓤 : URA M) (H : Heap 𝓤) (A : Atoms 𝓤) (W : Given 𝓤 H A) (mem : Memory → SProp 𝓤) (run : Routine → Fun 𝓤) where
