@@ -14,13 +14,14 @@ use Rattle.laws.specs.Choice.{if_then_else_}
 use Rattle.laws.proofs.Tests.{both, and-intro, if-ind, by-cases}
 use Rattle.settings.specs.Settings.{blank, recordFit, recordRanged, limitsOrdered, settingsLength}
 use Rattle.settings.specs.declared.Settings.{Settings}
-use Rattle.device.proofs.Keeps.{off-fit, off-idle}
+use Rattle.device.specs.Sensor.{sensorFit}
+use Rattle.device.proofs.Keeps.{off-fit, off-idle, none-fit}
 use Rattle.event.specs.Setup.{setupRanged, edgeAgrees}
 use Rattle.event.specs.Event.{eventRanged, eventAgrees}
 use Rattle.event.specs.declared.Event.{Event}
 use Rattle.event.specs.declared.Event.the-variants.{Sample, Run, Stop, Emergency, Recall, Cancel, ClearCode, ClearAll, ErrorReset, NoOperation, Setup, Store}
 use Rattle.line.specs.Line.{freshLine, inHand, busy}
-use Rattle.line.specs.Fit.{lastFit, sensorFit, errorKnown, statusFit, itemFit}
+use Rattle.line.specs.Fit.{lastFit, errorKnown, statusFit, itemFit}
 use Rattle.undo.specs.Undo.{undoFit, noChance}
 use Rattle.line.specs.Effect.{bit}
 use Rattle.line.specs.Refusal.{readsRecord, readsTally, memorySound, statusWrong, runUnsafe, runOccupied, nothingToCancel, refusalOf}
@@ -150,7 +151,7 @@ holds-after w e h =
 fresh-fit : FitLine freshLine
 unfolding freshLine setupRanged edgeAgrees lastFit sensorFit statusFit errorKnown busy itemFit undoFit
 fresh-fit =
-    record { code = refl; setup = refl; last = refl; sensor = refl; status = rw off-idle; sorter = off-fit; delay = refl; item = refl; undo = refl }
+    record { code = refl; setup = refl; last = refl; sensor = refl; status = rw off-idle; sorter = off-fit; delay = none-fit; item = refl; undo = refl }
 
 blank-fit : recordFit blank ≡ true
 unfolding recordRanged limitsOrdered

@@ -12,10 +12,10 @@ use Rattle.laws.proofs.Tests.{both, and-intro, if-ind}
 use Rattle.lists.specs.Each.{allOf, without}
 use Rattle.lists.proofs.Each.{all-more, without-short, without-keeps}
 use Rattle.device.specs.Time.{longest, fallen, ended}
-use Rattle.device.specs.Sensor.{settled}
+use Rattle.device.specs.Sensor.{settled, sensorFit}
 use Rattle.device.specs.Queue.{places, waitsOf, laid, waiting, isEmpty, isFull, queueTicked, oneEnds, joined, queueFit}
 use Rattle.device.specs.Sorter.{sorting, sorterTicked, queued, sorterOff, sorterFit}
-use Rattle.device.specs.Foreign.{delayFallen, signalled, foreignTicked}
+use Rattle.device.specs.Foreign.{due, delayFallen, started, signalled, foreignTicked, flagUsed, noSignal, foreignFit}
 use Rattle.device.specs.declared.sensor.Sensor.{Sensor}
 use Rattle.device.specs.declared.queue.Queue.{Queue}
 use Rattle.device.specs.declared.sorter.Sorter.{Sorter}
@@ -24,18 +24,15 @@ use Rattle.device.proofs.Waits.{waits-laid}
 
 -- ---- the sensor
 
-pub record Settled (s : Sensor) : Type 0 where
-  pub level : s .level ≤ 1
-  pub run : s .run ≤ 9999
-
-pub settled-keeps : (s : Sensor) (tc level : ℕ) → Settled s → tc ≤ 9999 → level ≤ 1 → Settled (settled s tc level)
-unfolding settled
-settled-keeps s tc level f t l =
-    if-ind Settled (eqb level (s .level)) _ _
-    (λ _. record { level = f .level; run = omega arith })
-    (λ _. if-ind Settled (leb (max 1 tc) (s .run + 1)) _ _
-    (λ _. record { level = l; run = omega arith })
-    (λ h. record { level = f .level; run = omega (arith, leb-false (max 1 tc) (s .run + 1) h) }))
+pub settled-fit : (s : Sensor) (tc level : ℕ) → tc ≤ longest → level ≤ 1 → sensorFit s ≡ true → sensorFit (settled s tc level) ≡ true
+unfolding settled sensorFit
+settled-fit s tc level t l h =
+    let b = both (leb (s .level) 1) (leb (s .run) longest) h in
+    if-ind (λ (k : Sensor). sensorFit k ≡ true) (eqb level (s .level)) _ _
+    (λ _. and-intro (b .0) refl)
+    (λ _. if-ind (λ (k : Sensor). sensorFit k ≡ true) (leb (max 1 tc) (s .run + 1)) _ _
+    (λ _. and-intro (le-leb level 1 l) refl)
+    (λ f. and-intro (b .0) (le-leb (s .run + 1) longest (omega (arith, leb-false (max 1 tc) (s .run + 1) f)))))
 
 -- ---- the queue
 
@@ -101,18 +98,26 @@ off-idle = refl
 
 -- ---- the foreign detector
 
-fallen-delay : (f : Foreign) → f .delay ≤ 9999 → delayFallen f .delay ≤ 9999
-unfolding delayFallen
-fallen-delay f h = omega arith
+fallen-fit : (f : Foreign) → foreignFit f ≡ true → foreignFit (delayFallen f) ≡ true
+unfolding foreignFit delayFallen
+fallen-fit f h = le-leb (fallen (f .delay)) longest (omega (arith, leb-true (f .delay) longest h))
 
-signalled-delay : (f : Foreign) (tf : ℕ) → tf ≤ 9999 → f .delay ≤ 9999 → signalled f tf .delay ≤ 9999
-unfolding signalled
-signalled-delay f tf t h =
-    if-ind (λ (g : Foreign). g .delay ≤ 9999) (eqb (f .delay) 0 && not (f .flag)) _ _ (λ _. t) (λ _. h)
+signalled-fit : (f : Foreign) (tf : ℕ) → tf ≤ longest → foreignFit f ≡ true → foreignFit (signalled f tf) ≡ true
+unfolding foreignFit signalled started
+signalled-fit f tf t h =
+    if-ind (λ (g : Foreign). foreignFit g ≡ true) (eqb (f .delay) 0 && not (due f)) _ _ (λ _. le-leb tf longest t) (λ _. h)
 
-pub ticked-delay : (f : Foreign) (rises : Bool) (tf : ℕ) → tf ≤ 9999 → f .delay ≤ 9999 → foreignTicked f rises tf .delay ≤ 9999
+pub foreign-ticked-fit : (f : Foreign) (rises : Bool) (tf : ℕ) → tf ≤ longest → foreignFit f ≡ true → foreignFit (foreignTicked f rises tf) ≡ true
 unfolding foreignTicked
-ticked-delay f rises tf t h =
-    if-ind (λ (g : Foreign). g .delay ≤ 9999) rises _ _
-    (λ _. signalled-delay (delayFallen f) tf t (fallen-delay f h))
-    (λ _. fallen-delay f h)
+foreign-ticked-fit f rises tf t h =
+    if-ind (λ (g : Foreign). foreignFit g ≡ true) rises _ _
+    (λ _. signalled-fit (delayFallen f) tf t (fallen-fit f h))
+    (λ _. fallen-fit f h)
+
+pub used-fit : (f : Foreign) → foreignFit f ≡ true → foreignFit (flagUsed f) ≡ true
+unfolding foreignFit flagUsed
+used-fit f h = h
+
+pub none-fit : foreignFit noSignal ≡ true
+unfolding foreignFit noSignal
+none-fit = refl

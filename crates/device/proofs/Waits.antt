@@ -8,7 +8,7 @@ use native.Mathlib.Omega.{arith}
 use lib.Dec.{eqb, ltb, leb}
 use lib.ListN.{length, take, replicate, length-append, length-take, length-map}
 use lib.Seq.{take-append-seam}
-use borrow.Author.Tests.{eq-eqb, ne-eqb, eqb-true, eqb-false, le-leb, lt-leb, leb-true, leb-false}
+use borrow.Author.Tests.{eq-eqb, ne-eqb, eqb-true, eqb-false, le-ltb, le-leb, lt-leb, leb-true, leb-false}
 use Rattle.laws.specs.Choice.{if_then_else_}
 use Rattle.laws.proofs.Tests.{by-cases}
 use Rattle.lists.specs.Each.{anyOf, without}
@@ -40,6 +40,13 @@ waits-ticked q =
 pub ends-fewer : (q : Queue) → oneEnds q ≡ ltb (waiting (queueTicked q)) (waiting q)
 unfolding oneEnds waiting
 ends-fewer q = one-less ended (map fallen (waitsOf q)) ∙ rw (waits-ticked q, length-map)
+
+pub empty-stays : (q : Queue) → isEmpty q ≡ true → queueTicked q ≡ q
+unfolding queueTicked
+empty-stays q h = rw h
+
+pub none-ends : (q : Queue) → isEmpty q ≡ true → oneEnds q ≡ false
+none-ends q h = ends-fewer q ∙ rw (empty-stays q h) (le-ltb (waiting q) (waiting q) (omega arith))
 
 -- ---- one joins
 

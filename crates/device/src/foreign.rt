@@ -1,33 +1,51 @@
 // The foreign detector: a signal under way (delay) or arrived (flag).
 ghost use mathlib.Core.Path.{_≡_};
-ghost use Rattle.device.specs.Foreign.{delayFallen, signalled, foreignTicked, flagUsed};
+ghost use Rattle.device.specs.Foreign.{due, delayFallen, started, signalled, foreignTicked, flagUsed, noSignal, foreignFit};
+use crate::time::LONGEST;
 
 pub struct Foreign {
     pub delay: u64,
-    pub flag: bool,
+    // 1 if set, else 0: a number, since the padding behind a bool is copied at a cost
+    pub flag: u64,
 }
 
 impl Foreign {
+    pub fn none() -> Foreign
+        ensures { λ r. ⌜ r ≡ noSignal ⌝ }
+    {
+        Foreign { delay: 0, flag: 0 }
+    }
+
+    // A signal on its way; with no delay it is there now.
+    fn started(tf: u64) -> Foreign
+        ensures { λ r. ⌜ r ≡ started tf ⌝ }
+    {
+        if tf == 0 {
+            return Foreign { delay: 0, flag: 1 };
+        }
+        Foreign { delay: tf, flag: 0 }
+    }
+
     fn fallen(self) -> Foreign
         ensures { λ r. ⌜ r ≡ delayFallen self ⌝ }
     {
         if self.delay == 0 {
             return self;
         }
+        if self.delay == 1 {
+            return Foreign { delay: 0, flag: 1 };
+        }
         Foreign {
             delay: self.delay - 1,
-            flag: self.flag | (self.delay == 1),
+            flag: self.flag,
         }
     }
 
     fn signalled(self, tf: u64) -> Foreign
         ensures { λ r. ⌜ r ≡ signalled self tf ⌝ }
     {
-        if (self.delay == 0) & !self.flag {
-            return Foreign {
-                delay: tf,
-                flag: tf == 0,
-            };
+        if (self.delay == 0) & !self.due() {
+            return Foreign::started(tf);
         }
         self
     }
@@ -42,12 +60,25 @@ impl Foreign {
         self.fallen()
     }
 
+    // The flag is set: the next verdict is foreign.
+    pub fn due(self) -> bool
+        ensures { λ r. ⌜ r ≡ due self ⌝ }
+    {
+        self.flag != 0
+    }
+
     pub fn used(self) -> Foreign
         ensures { λ r. ⌜ r ≡ flagUsed self ⌝ }
     {
         Foreign {
             delay: self.delay,
-            flag: false,
+            flag: 0,
         }
+    }
+
+    pub fn fit(self) -> bool
+        ensures { λ r. ⌜ r ≡ foreignFit self ⌝ }
+    {
+        self.delay <= LONGEST
     }
 }

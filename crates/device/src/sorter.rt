@@ -36,8 +36,21 @@ impl Sorter {
         !queue.is_empty() | (0 < self.on)
     }
 
-    // A running tick: all times fall, and a wait that ends puts the sorter on for `to`. One ends where fewer wait than before.
-    pub fn ticked(self, to: u64) -> Sorter
+    // A running tick: all times fall, and a wait that ends puts the sorter on for `to`. With an empty queue only the on-time
+    // falls: the places are not copied.
+    pub fn ticked(mut self, to: u64) -> Sorter
+        ensures { λ r. ⌜ r ≡ sorterTicked self to ⌝ }
+    {
+        let queue = self.queue;
+        if queue.is_empty() {
+            self.on = fallen(self.on);
+            return self;
+        }
+        self.waits_ticked(to)
+    }
+
+    // A wait ends where fewer wait than before.
+    fn waits_ticked(self, to: u64) -> Sorter
         ensures { λ r. ⌜ r ≡ sorterTicked self to ⌝ }
     {
         let queue = self.queue;

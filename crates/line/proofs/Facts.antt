@@ -1,12 +1,13 @@
 -- What the fitness of a line tells, part by part, and back. Assumes nothing.
 use mathlib.Core.Path.{_≡_}
 use mathlib.Core.Bool.{true}
-use lib.Dec.{leb}
 use Rattle.laws.proofs.Tests.{both}
+use Rattle.device.specs.Sensor.{sensorFit}
 use Rattle.device.specs.Sorter.{sorterFit}
+use Rattle.device.specs.Foreign.{foreignFit}
 use Rattle.event.specs.Setup.{setupFit}
 use Rattle.event.specs.Event.{isCode}
-use Rattle.line.specs.Fit.{lastFit, sensorFit, statusFit, itemFit, lineFit}
+use Rattle.line.specs.Fit.{lastFit, statusFit, itemFit, lineFit}
 use Rattle.undo.specs.Undo.{undoFit}
 use Rattle.line.specs.declared.line.Line.{Line}
 
@@ -17,7 +18,7 @@ pub record FitLine (l : Line) : Type 0 where
   pub sensor : sensorFit (l .sensor) ≡ true
   pub status : statusFit l ≡ true
   pub sorter : sorterFit (l .sorter) ≡ true
-  pub delay : leb (l .foreign .delay) 9999 ≡ true
+  pub delay : foreignFit (l .foreign) ≡ true
   pub item : itemFit (l .item) (l .setup) ≡ true
   pub undo : undoFit (l .undo) ≡ true
 
@@ -26,7 +27,7 @@ unfolding lineFit
 fit-tells l h =
     let a = both _ (undoFit (l .undo)) h in
     let b = both _ (itemFit (l .item) (l .setup)) (a .0) in
-    let c = both _ (leb (l .foreign .delay) 9999) (b .0) in
+    let c = both _ (foreignFit (l .foreign)) (b .0) in
     let d = both _ (sorterFit (l .sorter)) (c .0) in
     let e = both _ (statusFit l) (d .0) in
     let f = both _ (sensorFit (l .sensor)) (e .0) in

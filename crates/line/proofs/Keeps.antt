@@ -3,19 +3,19 @@ use mathlib.Core.Path.{_≡_, refl}
 use mathlib.Core.Bool.{Bool, true, _&&_, _||_, not}
 use Prim.Native.Nat.{ℕ}
 use lib.Dec.{leb, eqb}
-use borrow.Author.Tests.{leb-true, le-leb, eqb-true}
+use borrow.Author.Tests.{eqb-true}
 use Rattle.laws.proofs.Tests.{both, and-intro, if-ind}
 use Rattle.mask.specs.Bits.{marked}
 use Rattle.device.specs.Sorter.{sorterFit, sorterTicked, queued}
-use Rattle.device.specs.Foreign.{foreignTicked}
+use Rattle.device.specs.Foreign.{foreignTicked, foreignFit}
 use Rattle.device.specs.declared.sorter.Sorter.{Sorter}
 use Rattle.device.specs.declared.foreign.Foreign.{Foreign}
-use Rattle.device.proofs.Keeps.{settled-keeps, ticked-fit, queued-fit, off-fit, off-idle, ticked-delay}
+use Rattle.device.proofs.Keeps.{settled-fit, ticked-fit, queued-fit, off-fit, off-idle, foreign-ticked-fit}
 use Rattle.event.specs.declared.Sample.{Sample}
 use Rattle.event.proofs.Facts.{timers, InRange}
 use Rattle.line.specs.Line.{stopped, running, paused, emergency, busy, withStatus, withSorter, withForeign, withItem}
 use Rattle.event.specs.Reply.{noError}
-use Rattle.line.specs.Fit.{lastFit, sensorFit, errorKnown, statusFit, itemFit}
+use Rattle.line.specs.Fit.{lastFit, errorKnown, statusFit, itemFit}
 use Rattle.line.specs.Effect.{halted}
 use Rattle.line.specs.Verdict.{errorFor, sortedFor, stoppedFor}
 use Rattle.line.specs.Sample.{step1, step4, step5}
@@ -84,7 +84,7 @@ with-sorter l s r h =
       error = r .error;
     }
 
-pub with-foreign : (l : Line) (f : Foreign) → Running l → leb (f .delay) 9999 ≡ true → Running (withForeign l f)
+pub with-foreign : (l : Line) (f : Foreign) → Running l → foreignFit f ≡ true → Running (withForeign l f)
 with-foreign l f r h =
     record {
       fit = record {
@@ -128,7 +128,7 @@ pub fit-step5 : (l : Line) (rises : Bool) → Running l → Running (step5 l ris
 unfolding step5
 fit-step5 l rises r =
     with-foreign l (foreignTicked (l .foreign) rises (l .setup .tf)) r
-    (le-leb _ _ (ticked-delay (l .foreign) rises (l .setup .tf) (timers (l .setup) (r .fit .setup) .tf) (leb-true _ _ (r .fit .delay))))
+    (foreign-ticked-fit (l .foreign) rises (l .setup .tf) (timers (l .setup) (r .fit .setup) .tf) (r .fit .delay))
 
 pub fit-sorted : (l : Line) (v : ℕ) → Running l → Running (sortedFor l v)
 unfolding sortedFor
@@ -151,16 +151,13 @@ fit-stopped l v f =
     if-ind FitLine (marked (l .setup .stop) v) _ _ (λ _. with-paused l (errorFor v) f (error-known v)) (λ _. f)
 
 pub fit-step1 : (l : Line) (s : Sample) → FitLine l → InRange s → FitLine (step1 l s)
-unfolding step1 lastFit sensorFit statusFit busy
+unfolding step1 lastFit statusFit busy
 fit-step1 l s f r =
-    let b = both (leb (l .sensor .level) 1) (leb (l .sensor .run) 9999) (f .sensor) in
-    let k = settled-keeps (l .sensor) (l .setup .tc) (s .sensor)
-    (record { level = leb-true _ _ (b .0); run = leb-true _ _ (b .1) }) (timers (l .setup) (f .setup) .tc) (r .sensor) in
     record {
       code = f .code;
       setup = f .setup;
       last = and-intro (and-intro (r .gross) (r .safety)) (r .foreign);
-      sensor = and-intro (le-leb _ _ (k .level)) (le-leb _ _ (k .run));
+      sensor = settled-fit (l .sensor) (l .setup .tc) (s .sensor) (timers (l .setup) (f .setup) .tc) (r .sensor) (f .sensor);
       status = f .status;
       sorter = f .sorter;
       delay = f .delay;

@@ -16,7 +16,8 @@ use Rattle.settings.specs.Settings.{recordFit}
 use Rattle.settings.specs.Grade.{gradeOf}
 use Rattle.settings.specs.declared.Settings.{Settings}
 use Rattle.settings.proofs.Facts.{net-weight}
-use Rattle.device.specs.Foreign.{flagUsed}
+use Rattle.device.specs.Foreign.{due, flagUsed}
+use Rattle.device.proofs.Keeps.{used-fit}
 use Rattle.event.specs.declared.Sample.{Sample}
 use Rattle.event.proofs.Facts.{timers, InRange}
 use Rattle.tally.specs.Tally.{isGrade}
@@ -135,9 +136,9 @@ verdict-ends : (l : Line) (a : Settings) (net : ℤ) → Running (withItem l Non
 unfolding verdictOf flagUsed
 verdict-ends l a net r w n =
     let k = withItem l None in
-    if-ind (Ends l) (l .foreign .flag) _ _
+    if-ind (Ends l) (due (l .foreign)) _ _
     (λ _. judged-ends l (withForeign k (flagUsed (l .foreign))) (orCrash k 6) net
-    (with-foreign k (flagUsed (l .foreign)) r (r .fit .delay)) refl refl refl w
+    (with-foreign k (flagUsed (l .foreign)) r (used-fit (l .foreign) (r .fit .delay))) refl refl refl w
     (crash-judged k 6 foreign-judged) n)
     (λ _. judged-ends l k (orCrash k (gradeOf a net)) net r refl refl refl w (crash-judged k (gradeOf a net) (grade-judged a net)) n)
 

@@ -5,8 +5,9 @@ use lib.Dec.{eqb, leb}
 use lib.IntN.{natAbs}
 use Rattle.laws.specs.Choice.{within}
 use Rattle.weight.specs.Weight.{isWeight}
+use Rattle.device.specs.Sensor.{sensorFit}
 use Rattle.device.specs.Sorter.{sorterFit}
-use Rattle.device.specs.declared.sensor.Sensor.{Sensor}
+use Rattle.device.specs.Foreign.{foreignFit}
 use Rattle.event.specs.Setup.{setupFit}
 use Rattle.event.specs.Event.{isCode}
 use Rattle.event.specs.declared.Setup.{Setup}
@@ -21,10 +22,6 @@ use Rattle.line.specs.declared.line.Line.{Line}
 -- "last sample .. as events take them"
 unfoldable pub lastFit : Last → Bool
 lastFit k = isWeight (k .gross) && leb (k .safety) 255 && leb (k .foreign) 1
-
--- "levels 0 or 1", and the run of differing ticks one of the "other times 0 to 9,999"
-unfoldable pub sensorFit : Sensor → Bool
-sensorFit s = leb (s .level) 1 && leb (s .run) 9999
 
 -- "error known here": none, 0, 1, 2, 5 or 6
 unfoldable pub errorKnown : ℕ → Bool
@@ -46,5 +43,5 @@ statusFit l =
 unfoldable pub lineFit : Line → Bool
 lineFit l =
     isCode (l .code) && setupFit (l .setup) && lastFit (l .last) && sensorFit (l .sensor)
-    && statusFit l && sorterFit (l .sorter) && leb (l .foreign .delay) 9999
+    && statusFit l && sorterFit (l .sorter) && foreignFit (l .foreign)
     && itemFit (l .item) (l .setup) && undoFit (l .undo)

@@ -10,7 +10,7 @@ use Rattle.mask.specs.Bits.{marked}
 use Rattle.settings.specs.Grade.{gradeOf}
 use Rattle.settings.specs.declared.Settings.{Settings}
 use Rattle.device.specs.Sorter.{full, queued}
-use Rattle.device.specs.Foreign.{flagUsed}
+use Rattle.device.specs.Foreign.{due, flagUsed}
 use Rattle.tally.specs.Tally.{isGrade}
 use Rattle.line.specs.Line.{paused, withStatus, withForeign, withSorter}
 use Rattle.line.specs.Effect.{dismissed}
@@ -46,7 +46,7 @@ orCrash l v = if marked (l .setup .sort) v && full (l .sorter) then 8 else v
 -- "the verdict due is foreign if the flag is set (flag used up), else the grade"
 unfoldable pub verdictOf : Line → Settings → ℤ → Effect
 verdictOf l a net =
-    if l .foreign .flag then given (withForeign l (flagUsed (l .foreign))) 0 (orCrash l 6) net
+    if due (l .foreign) then given (withForeign l (flagUsed (l .foreign))) 0 (orCrash l 6) net
     else given l 0 (orCrash l (gradeOf a net)) net
 
 -- "If m ≤ nearzero: dismissed. Else net = m - tare"

@@ -1,9 +1,8 @@
 // Whether a line is fit: tested before every event, so that no caller is trusted.
 ghost use mathlib.Core.Path.{_≡_};
-ghost use Rattle.line.specs.Fit.{lastFit, sensorFit, errorKnown, statusFit, lineFit};
+ghost use Rattle.line.specs.Fit.{lastFit, errorKnown, statusFit, lineFit};
 use crate::line::Last;
 use crate::line::Line;
-use device::Sensor;
 use event::is_code;
 use weight::is_weight;
 
@@ -11,12 +10,6 @@ fn error_known(error: u64) -> bool
     ensures { λ r. ⌜ r ≡ errorKnown error ⌝ }
 {
     (error == Line::NO_ERROR) | (error <= 2) | (error == 5) | (error == 6)
-}
-
-fn sensor_fit(sensor: Sensor) -> bool
-    ensures { λ r. ⌜ r ≡ sensorFit sensor ⌝ }
-{
-    (sensor.level <= 1) & (sensor.run <= 9999)
 }
 
 impl Last {
@@ -53,14 +46,15 @@ impl Line {
         let last = self.last;
         let sensor = self.sensor;
         let sorter = self.sorter;
+        let foreign = self.foreign;
         let item = self.item;
         let undo = self.undo;
         is_code(self.code)
             & last.fit()
-            & sensor_fit(sensor)
+            & sensor.fit()
             & self.status_fit()
             & sorter.fit()
-            & (self.foreign.delay <= 9999)
+            & foreign.fit()
             & item.fit(setup)
             & undo.fit()
     }

@@ -91,10 +91,7 @@ impl Line {
                 safety: 255,
                 foreign: 0,
             },
-            foreign: Foreign {
-                delay: 0,
-                flag: false,
-            },
+            foreign: Foreign::none(),
             item: Item::None,
             sorter: Sorter::off(),
             undo: Undo::Nothing,

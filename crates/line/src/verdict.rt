@@ -82,9 +82,9 @@ impl Line {
     fn verdict_of(self, active: Settings, net: i64) -> Effect
         ensures { λ r. ⌜ r ≡ verdictOf self active net ⌝ }
     {
-        if self.foreign.flag {
+        let foreign = self.foreign;
+        if foreign.due() {
             let verdict = self.or_crash(6);
-            let foreign = self.foreign;
             return self.with_foreign(foreign.used()).given(0, verdict, net);
         }
         let verdict = self.or_crash(active.grade(net));

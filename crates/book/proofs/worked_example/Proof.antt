@@ -2,7 +2,7 @@
 use mathlib.Core.Path.{refl}
 use Rattle.book.specs.Run.{run, runFrom}
 use Rattle.line.specs.Line.{freshLine, busy, conveyor, sorterOn}
-use Rattle.line.specs.Fit.{lastFit, sensorFit, errorKnown, itemFit, statusFit, lineFit}
+use Rattle.line.specs.Fit.{lastFit, errorKnown, itemFit, statusFit, lineFit}
 use Rattle.undo.specs.Undo.{undoFit}
 use Rattle.line.specs.Effect.{halted, halting, replied}
 use Rattle.line.specs.Verdict.{sortedFor, errorFor, stoppedFor, given, orCrash, verdictOf, judged}
@@ -13,11 +13,11 @@ use Rattle.line.specs.Refusal.{memorySound, statusWrong, runUnsafe, runOccupied
 use Rattle.line.specs.Step.{accepted, stepOf}
 use Rattle.tally.specs.Tally.{tallyFit, hasRoom, largestWith, smallestWith, countedWith, weighedWith, added}
 use Rattle.tallies.specs.Memory.{part, tallyOf, unsigned, tallyAtFit, withTally, zeros}
-use Rattle.device.specs.Sensor.{settled}
+use Rattle.device.specs.Sensor.{settled, sensorFit}
 use Rattle.lists.specs.Each.{anyOf, allOf, without}
 use Rattle.device.specs.Queue.{waitsOf, laid, waiting, isEmpty, isFull, queueTicked, oneEnds, joined, queueFit}
 use Rattle.device.specs.Sorter.{full, sorting, sorterTicked, queued, sorterOff, sorterFit}
-use Rattle.device.specs.Foreign.{delayFallen, signalled, foreignTicked, flagUsed}
+use Rattle.device.specs.Foreign.{due, delayFallen, started, signalled, foreignTicked, flagUsed, noSignal, foreignFit}
 use Rattle.mask.specs.Bits.{marked, firstOff}
 use Rattle.settings.specs.Settings.{recordRanged, limitsOrdered}
 use Rattle.settings.specs.Grade.{gradeOf}
@@ -29,7 +29,7 @@ use Rattle.book.proofs.worked_example.Statement.{statement}
 use Rattle.book.proofs.worked_example.Tie as tie
 
 returns : tie.Need-returns
-unfolding run runFrom freshLine busy conveyor sorterOn lastFit sensorFit errorKnown itemFit undoFit statusFit lineFit halted halting replied sortedFor errorFor stoppedFor given orCrash verdictOf judged step1 edgeMade foreignRises step2 step3 step4 step5 weighed afterWeighing step6 newItem detecting step7 runningTick guarded fromStep3 sampled ran stopping alarmed noted recorded codeCleared memorySound statusWrong runUnsafe runOccupied nothingToCancel refusalOf inputOf accepted stepOf tallyFit hasRoom largestWith smallestWith countedWith weighedWith added part tallyOf unsigned tallyAtFit withTally zeros settled anyOf allOf without waitsOf laid waiting isEmpty isFull queueTicked oneEnds joined queueFit full sorting sorterTicked queued sorterOff sorterFit delayFallen signalled foreignTicked flagUsed marked firstOff recordRanged limitsOrdered gradeOf setupRanged edgeAgrees sampleRanged eventRanged eventAgrees nearest rounded
+unfolding run runFrom freshLine busy conveyor sorterOn lastFit sensorFit errorKnown itemFit undoFit statusFit lineFit halted halting replied sortedFor errorFor stoppedFor given orCrash verdictOf judged step1 edgeMade foreignRises step2 step3 step4 step5 weighed afterWeighing step6 newItem detecting step7 runningTick guarded fromStep3 sampled ran stopping alarmed noted recorded codeCleared memorySound statusWrong runUnsafe runOccupied nothingToCancel refusalOf inputOf accepted stepOf tallyFit hasRoom largestWith smallestWith countedWith weighedWith added part tallyOf unsigned tallyAtFit withTally zeros settled anyOf allOf without waitsOf laid waiting isEmpty isFull queueTicked oneEnds joined queueFit full sorting sorterTicked queued sorterOff sorterFit due delayFallen started signalled foreignTicked flagUsed noSignal foreignFit marked firstOff recordRanged limitsOrdered gradeOf setupRanged edgeAgrees sampleRanged eventRanged eventAgrees nearest rounded
 returns c = refl
 
 pub worked-example-spec : {M : Type 1} → statement M

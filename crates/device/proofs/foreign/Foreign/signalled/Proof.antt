@@ -1,15 +1,29 @@
 -- `signalled` starts a delay where none runs and no flag is set. Assumes nothing.
-use Rattle.device.specs.Foreign.{signalled}
+use mathlib.Core.Bool.{Bool, true, false, _&&_, not}
+use mathlib.Core.Path.{_≡_}
+use lib.Dec.{eqb}
+use Rattle.device.specs.Foreign.{due, signalled}
+use borrow.Author.Needs.{needs}
 use Rattle.device.proofs.foreign.Foreign.signalled.Statement.{statement}
 use Rattle.device.proofs.foreign.Foreign.signalled.Tie as tie
 
+due-requires : tie.Need-due-requires
+due-requires c κs = search needs
+
+started-requires : tie.Need-started-requires
+started-requires c κs = search needs
+
 returns : tie.Need-returns
 unfolding signalled
-returns c = simp (c .if1 .taken)
+returns c = let f = c .before .before .before .before .args .self in
+    let e : eqb (f .delay) 0 && not (due f) ≡ true = rw (c .before .before .due .ensures) at (c .before .if1 .taken) in
+    simp (e, c .started .ensures)
 
 returns-2 : tie.Need-returns-2
 unfolding signalled
-returns-2 c = simp (c .if1 .left)
+returns-2 c = let f = c .before .before .before .args .self in
+    let e : eqb (f .delay) 0 && not (due f) ≡ false = rw (c .before .due .ensures) at (c .if1 .left) in
+    simp e
 
 pub signalled-spec : {M : Type 1} → statement M
-signalled-spec = tie.close (tie.spec returns returns-2)
+signalled-spec = tie.close (tie.spec due-requires started-requires returns returns-2)

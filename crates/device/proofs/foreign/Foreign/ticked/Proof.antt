@@ -1,6 +1,6 @@
 -- `ticked` lets the delay fall, then looks at the change. Assumes nothing.
-use borrow.Author.Needs.{needs}
 use Rattle.device.specs.Foreign.{foreignTicked}
+use borrow.Author.Needs.{needs}
 use Rattle.device.proofs.foreign.Foreign.ticked.Statement.{statement}
 use Rattle.device.proofs.foreign.Foreign.ticked.Tie as tie
 

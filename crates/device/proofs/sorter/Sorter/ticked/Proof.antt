@@ -1,52 +1,31 @@
--- `ticked`: a wait that ends sets the on-time, and one ends where fewer wait after the tick. Assumes nothing.
-use borrow.Author.Needs.{needs}
-use borrow.Author.Tests.{lt-ltb, le-ltb}
-use mathlib.Core.Bool.{true, false}
-use mathlib.Core.Path.{_≡_, ap, _∙_}
-use native.Mathlib.Omega.{arith}
-use Rattle.device.specs.Queue.{waiting, queueTicked, oneEnds}
+-- `ticked`: an empty queue stays, and no wait ends. Assumes nothing.
+use mathlib.Core.Bool.{true}
+use mathlib.Core.Path.{_≡_, sym, _∙_}
+use Rattle.device.specs.Queue.{isEmpty}
 use Rattle.device.specs.Sorter.{sorterTicked}
-use Rattle.device.proofs.Waits.{ends-fewer}
+use Rattle.device.proofs.Waits.{empty-stays, none-ends}
+use borrow.Author.Needs.{needs}
 use Rattle.device.proofs.sorter.Sorter.ticked.Statement.{statement}
 use Rattle.device.proofs.sorter.Sorter.ticked.Tie as tie
 
-ticked-requires : tie.Need-ticked-requires
-ticked-requires c κs = search needs
-
-waiting-requires : tie.Need-waiting-requires
-waiting-requires c κs = search needs
-
-waiting-requires-2 : tie.Need-waiting-requires-2
-waiting-requires-2 c κs = search needs
-
-returns : tie.Need-returns
-unfolding sorterTicked
-returns c =
-    let q = c .before .before .before .before .before .args .self .queue in
-    let t = c .before .before .before .ticked .ensures in
-    let n = c .before .before .waiting .ensures ∙ ap waiting t in
-    let e : oneEnds q ≡ true = ends-fewer q ∙ lt-ltb (waiting (queueTicked q)) (waiting q) (omega (arith, n, c .before .waiting2 .ensures, c .if1 .taken)) in
-    simp (t, e)
+is-empty-requires : tie.Need-is-empty-requires
+is-empty-requires c κs = search needs
 
 fallen-requires : tie.Need-fallen-requires
 fallen-requires c κs = search needs
 
-returns-2 : tie.Need-returns-2
+returns : tie.Need-returns
 unfolding sorterTicked
-returns-2 c =
-    let q = c .before .before .before .before .before .before .args .self .queue in
-    let t = c .before .before .before .before .ticked .ensures in
-    let n = c .before .before .before .waiting .ensures ∙ ap waiting t in
-    let e : oneEnds q ≡ false = ends-fewer q ∙ le-ltb (waiting (queueTicked q)) (waiting q) (omega (arith, n, c .before .before .waiting2 .ensures, c .before .if1 .left)) in
-    simp (t, e, c .fallen .ensures)
+returns c = let q = c .before .before .before .before .args .self .queue in
+    let e : isEmpty q ≡ true = sym (c .before .before .is-empty .ensures) ∙ c .before .if1 .taken in
+    rw (empty-stays q e, none-ends q e, c .fallen .ensures)
+
+waits-ticked-requires : tie.Need-waits-ticked-requires
+waits-ticked-requires c κs = search needs
+
+returns-2 : tie.Need-returns-2
+returns-2 c = c .waits-ticked .ensures
 
 pub ticked-spec : {M : Type 1} → statement M
 ticked-spec =
-    tie.close
-    (tie.spec
-    ticked-requires
-    waiting-requires
-    waiting-requires-2
-    returns
-    fallen-requires
-    returns-2)
+    tie.close (tie.spec is-empty-requires fallen-requires returns waits-ticked-requires returns-2)

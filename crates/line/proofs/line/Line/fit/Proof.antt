@@ -23,33 +23,37 @@ is-code-requires c κs = search needs
 fit-requires-2 : tie.Need-fit-requires-2
 fit-requires-2 c κs = search needs
 
-sensor-fit-requires : tie.Need-sensor-fit-requires
-sensor-fit-requires c κs = search needs
+fit-requires-3 : tie.Need-fit-requires-3
+fit-requires-3 c κs = search needs
 
 status-fit-requires : tie.Need-status-fit-requires
 status-fit-requires c κs = search needs
 
-fit-requires-3 : tie.Need-fit-requires-3
-fit-requires-3 c κs = search needs
-
 fit-requires-4 : tie.Need-fit-requires-4
-fit-requires-4 c κs = sym (c .before .before .before .before .before .before .before .before .before .before .fit .ensures) ∙ not-false _ (c .before .before .before .before .before .before .before .before .before .if1 .left)
+fit-requires-4 c κs = search needs
 
 fit-requires-5 : tie.Need-fit-requires-5
 fit-requires-5 c κs = search needs
 
+fit-requires-6 : tie.Need-fit-requires-6
+fit-requires-6 c κs = sym (c .before .before .before .before .before .before .before .before .before .before .before .fit .ensures) ∙ not-false _ (c .before .before .before .before .before .before .before .before .before .before .if1 .left)
+
+fit-requires-7 : tie.Need-fit-requires-7
+fit-requires-7 c κs = search needs
+
 returns-2 : tie.Need-returns-2
 unfolding lineFit
 returns-2 c =
-    let s = c .before .before .before .before .before .before .before .before .before .before .before .before .before .before .args .self in
+    let s = c .before .before .before .before .before .before .before .before .before .before .before .before .before .before .before .args .self in
     simp (
-      sym (c .before .before .before .before .before .before .before .before .before .before .before .before .fit .ensures) ∙ not-false _ (c .before .before .before .before .before .before .before .before .before .before .before .if1 .left),
+      sym (c .before .before .before .before .before .before .before .before .before .before .before .before .before .fit .ensures) ∙ not-false _ (c .before .before .before .before .before .before .before .before .before .before .before .before .if1 .left),
       and-true (isCode (s .code)),
-      c .fit5 .ensures,
-      c .before .fit4 .ensures,
-      c .before .before .before .fit3 .ensures,
+      c .fit7 .ensures,
+      c .before .fit6 .ensures,
+      c .before .before .fit5 .ensures,
+      c .before .before .before .fit4 .ensures,
       c .before .before .before .before .status-fit .ensures,
-      c .before .before .before .before .before .sensor-fit .ensures,
+      c .before .before .before .before .before .fit3 .ensures,
       c .before .before .before .before .before .before .fit2 .ensures,
       c .before .before .before .before .before .before .before .is-code .ensures,
     )
@@ -62,9 +66,10 @@ fit-spec =
     returns
     is-code-requires
     fit-requires-2
-    sensor-fit-requires
-    status-fit-requires
     fit-requires-3
+    status-fit-requires
     fit-requires-4
     fit-requires-5
+    fit-requires-6
+    fit-requires-7
     returns-2)

@@ -7,12 +7,15 @@ use Rattle.line.proofs.line.Line.fresh.Tie as tie
 fresh-setup-requires : tie.Need-fresh-setup-requires
 fresh-setup-requires c κs = search needs
 
+none-requires : tie.Need-none-requires
+none-requires c κs = search needs
+
 off-requires : tie.Need-off-requires
 off-requires c κs = search needs
 
 returns : tie.Need-returns
 unfolding freshLine
-returns c = simp (c .off .ensures, c .before .fresh-setup .ensures)
+returns c = simp (c .off .ensures, c .before .none .ensures, c .before .before .fresh-setup .ensures)
 
 pub fresh-spec : {M : Type 1} → statement M
-fresh-spec = tie.close (tie.spec fresh-setup-requires off-requires returns)
+fresh-spec = tie.close (tie.spec fresh-setup-requires none-requires off-requires returns)

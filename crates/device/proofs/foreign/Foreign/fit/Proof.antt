@@ -1,0 +1,12 @@
+-- `fit` tests the delay. Assumes nothing.
+use mathlib.Core.Path.{refl}
+use Rattle.device.specs.Foreign.{foreignFit}
+use Rattle.device.proofs.foreign.Foreign.fit.Statement.{statement}
+use Rattle.device.proofs.foreign.Foreign.fit.Tie as tie
+
+returns : tie.Need-returns
+unfolding foreignFit
+returns c = refl
+
+pub fit-spec : {M : Type 1} → statement M
+fit-spec = tie.close (tie.spec returns)
