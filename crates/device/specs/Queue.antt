@@ -26,7 +26,7 @@ laid l = record { waits = inPlaces places 0 l; n = length l }
 unfoldable pub waiting : Queue → ℕ
 waiting q = length (waitsOf q)
 
--- the queue "isn't empty": some wait
+-- none waits
 unfoldable pub isEmpty : Queue → Bool
 isEmpty q = eqb (waiting q) 0
 
