@@ -14,11 +14,12 @@ use Rattle.laws.specs.Choice.{if_then_else_, within}
 use Rattle.weight.specs.Weight.{isWeight}
 use Rattle.laws.proofs.Tests.{and-intro, if-ind}
 use Rattle.laws.proofs.Signed.{abs-add}
+use Rattle.lists.specs.Sums.{sumOf, squaresOf}
 use Rattle.tally.specs.Tally.{graded, total, emptyTally, tallyFit, hasRoom, largestWith, smallestWith, countedWith, weighedWith, added, isVerdict}
 use Rattle.tally.specs.declared.tally.Tally.{Tally}
 use Rattle.tally.proofs.Ones.{ones, grade-ones}
 use Rattle.book.specs.Book.{Verdict}
-use Rattle.book.specs.Page.{countOf, netsOf, sumOf, squaresOf, largestFrom, smallestFrom, largestOf, smallestOf, tallyOfPage}
+use Rattle.book.specs.Page.{countOf, netsOf, largestFrom, smallestFrom, largestOf, smallestOf, tallyOfPage}
 
 -- ---- one more verdict
 

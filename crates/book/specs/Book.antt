@@ -8,9 +8,14 @@ use lib.ListN.{length}
 use Rattle.laws.specs.Choice.{if_then_else_}
 use Rattle.event.specs.declared.Event.{Event}
 use Rattle.event.specs.declared.Event.the-variants.{Sample, Run, Stop, Emergency, Recall, Cancel, ClearCode, ClearAll, ErrorReset, NoOperation, Setup, Store}
-use Rattle.tally.specs.Tally.{isVerdict}
+use Rattle.tally.specs.Tally.{tallyLimit, isVerdict}
 use Rattle.event.specs.declared.reply.Reply.{Reply}
 use Rattle.event.specs.declared.reply.Reply.the-variants.{Refused, Done}
+
+-- an event and its reply
+pub record Turn : Type 0 where
+  pub event : Event
+  pub reply : Reply
 
 -- "a page of verdicts (outcome, net)"
 pub record Verdict : Type 0 where
@@ -21,7 +26,7 @@ pub record Verdict : Type 0 where
 abbrev pub Pages : Type 0
 Pages = ℕ → List Verdict
 
--- "It has an active code, a page of verdicts for each code, and a chance to cancel or none."
+-- "It has an active code, a page of verdicts .. for each code, and a chance to cancel or none."
 pub record Book : Type 0 where
   pub code : ℕ
   pub pages : Pages
@@ -37,7 +42,7 @@ turned f code p k = if eqb k code then p else f k
 
 -- "A verdict (outcome 1 to 8) is put last on the active page and gives a chance, if fewer than 999,999 are there; else the chance ends."
 unfoldable pub hasPlace : Book → Bool
-hasPlace b = ltb (length (b .pages (b .code))) 999999
+hasPlace b = ltb (length (b .pages (b .code))) tallyLimit
 
 unfoldable pub entered : Book → Verdict → Book
 entered b v =
@@ -49,8 +54,8 @@ abbrev pub lastOff : List Verdict → List Verdict
 lastOff [] = []
 lastOff (v ∷ p) = p
 
--- "Cancel takes the last one off the active page; recall makes its code active; clear all empties all pages: each ends the chance.
--- Clear code empties its page, and ends the chance if that page is active. All else leaves the book as it is."
+-- "Cancel takes the last one, if any, off the active page; recall makes its code active; clear all empties all pages: each ends the chance.
+-- Clear code empties its page, and ends the chance if that page is active. All else, refusals too, leaves the book as it is."
 unfoldable pub commanded : Book → Event → Book
 commanded b (Sample s) = b
 commanded b Run = b
@@ -68,12 +73,17 @@ commanded b (Setup s) = b
 commanded b (Store c s) = b
 
 -- the book after an event and its reply; "refusals too" leave it as it is
-unfoldable pub noted : Book → Event → Reply → Book
-noted b e (Refused number input) = b
-noted b e (Done d) =
+unfoldable pub fed : Book → Event → Reply → Book
+fed b e (Refused number input) = b
+fed b e (Done d) =
     if isVerdict (d .outcome) then entered b (record { outcome = d .outcome; net = d .net }) else commanded b e
 
 -- "Tallied is 1 exactly when a verdict was put on a page"
 unfoldable pub talliedBy : Book → Reply → ℕ
 talliedBy b (Refused number input) = 0
 talliedBy b (Done d) = if isVerdict (d .outcome) && hasPlace b then 1 else 0
+
+-- the book of what has been said; the last turn stands first
+unfoldable pub bookOf : List Turn → Book
+bookOf [] = firstBook
+bookOf (t ∷ h) = fed (bookOf h) (t .event) (t .reply)

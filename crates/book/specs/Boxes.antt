@@ -3,11 +3,10 @@ use Prim.Native.Nat.{ℕ, _+_}
 use mathlib.Core.Bool.{_&&_, _||_, not}
 use mathlib.Core.List.{List, [], _∷_}
 use lib.Dec.{eqb}
-use Rattle.laws.specs.Choice.{if_then_else_, within}
+use Rattle.laws.specs.Choice.{if_then_else_, within, bit}
 use Rattle.event.specs.declared.reply.Reply.{Reply}
 use Rattle.event.specs.declared.reply.Reply.the-variants.{Refused, Done}
-use Rattle.line.specs.Effect.{bit}
-use Rattle.book.specs.Run.{Turn}
+use Rattle.book.specs.Book.{Turn}
 
 abbrev pub detectedBy : Reply → ℕ
 detectedBy (Refused number input) = 0

@@ -1,11 +1,12 @@
 -- 01, "Counts are by outcome; n, S, Q, largest and smallest (0 if none) are over the nets of outcomes 1 to 5."
-use Prim.Native.Nat.{ℕ, _+_, _*_}
+use Prim.Native.Nat.{ℕ, _+_}
 use mathlib.Core.List.{List, [], _∷_}
 use lib.Dec.{eqb}
-use lib.IntN.{ℤ, pos, natAbs, _+ℤ_}
+use lib.IntN.{ℤ, pos}
 use lib.ListN.{length}
 use lib.Signed.{ltZ}
 use Rattle.laws.specs.Choice.{if_then_else_, within}
+use Rattle.lists.specs.Sums.{sumOf, squaresOf}
 use Rattle.tally.specs.declared.tally.Tally.{Tally}
 use Rattle.book.specs.Book.{Verdict}
 
@@ -18,14 +19,6 @@ countOf o (v ∷ p) = countOf o p + (if eqb (v .outcome) o then 1 else 0)
 unfoldable pub netsOf : List Verdict → List ℤ
 netsOf [] = []
 netsOf (v ∷ p) = if within 1 5 (v .outcome) then v .net ∷ netsOf p else netsOf p
-
-unfoldable pub sumOf : List ℤ → ℤ
-sumOf [] = pos 0
-sumOf (x ∷ xs) = sumOf xs +ℤ x
-
-unfoldable pub squaresOf : List ℤ → ℕ
-squaresOf [] = 0
-squaresOf (x ∷ xs) = squaresOf xs + natAbs x * natAbs x
 
 -- the largest of x and the numbers of a list, and the smallest
 unfoldable pub largestFrom : ℤ → List ℤ → ℤ

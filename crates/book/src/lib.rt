@@ -1,14 +1,8 @@
-// Demand 3: no box is counted twice or lost, whatever list of events comes.
-ghost use Rattle.book.specs.Claim.{Claim};
-ghost use Rattle.book.specs.Example.{Example};
+// The book of demand 3: what stands under each code, told from the events and their replies alone, and the balance of the
+// boxes over the replies. Nothing here can name a line or the memories.
+ghost use Rattle.book.specs.Laws.{Laws};
 
-// The claim over every list of events, from a fresh line and fresh memory. It says nothing of the code here: it is a
-// theorem on `stepOn`, which `line::Line::apply` is proved to be.
-pub fn ledger()
-    ensures { λ _. ⌜ Claim ⌝ }
-{}
-
-// The worked example of document 01, on the same definitions.
-pub fn worked_example()
-    ensures { λ _. ⌜ Example ⌝ }
+// What the book's sentences come to. It says nothing of the code: it is a theorem on the definitions.
+pub fn laws()
+    ensures { λ _. ⌜ Laws ⌝ }
 {}

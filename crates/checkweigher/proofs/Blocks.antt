@@ -26,6 +26,7 @@ use denote.Struct.Laws as LL
 use denote.Triple.Spec.{tripleOf}
 use denote.Triple.Statement.{Contract}
 use denote.Triple.Clauses.{ensured, lasts}
+use Rattle.line.specs.State.{state}
 use Rattle.settings.specs.declared.Settings.{Settings}
 use Rattle.line.specs.declared.line.Line.{Line}
 use Rattle.controller.specs.Input.{holding, tookAll}
@@ -108,7 +109,7 @@ module _ {M : Type 1} (𝓤 : URA M) (H : Heap 𝓤) (A : Atoms 𝓤) (mem : Mem
     Lasts = Unit {0} × (List Settings × (List ℤ × (Unit {0} × (List ℕ × Unit {0}))))
 
     abbrev Took : Session → Lasts → Type 0
-    Took r ws = TookUpTo (tookAll (holding (x .line) ys ts []) (drop-list (x .start) xs)) xs (r .line) (ws .1 .0) (ws .1 .1 .0) (r .start)
+    Took r ws = TookUpTo (tookAll (holding (state (x .line) ys ts) []) (drop-list (x .start) xs)) xs (r .line) (ws .1 .0) (ws .1 .1 .0) (r .start)
 
     abbrev Left : Val → Session → Lasts → SProp 𝓤
     Left w r ws = guard 𝓤 (Is S.the-row r (w ∷ [])) (guard 𝓤 (Took r ws) (guard 𝓤 (length (ws .1 .0) ≡ length ys) (guard 𝓤 (length (ws .1 .1 .0) ≡ length ts) (guard 𝓤 (length (ws .1 .1 .1 .1 .0) ≡ length us)

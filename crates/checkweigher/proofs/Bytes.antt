@@ -8,14 +8,15 @@ use lib.Dec.{eqb}
 use lib.IntN.{ℤ}
 use lib.ListN.{length, getD, take, drop, length-drop, drop-of-length-le}
 use lib.Seq.{drop-drop, drop-cons, getD-take}
+use Rattle.line.specs.State.{State, state}
 use Rattle.laws.proofs.Tests.{by-cases}
 use Rattle.settings.specs.declared.Settings.{Settings}
 use Rattle.line.specs.declared.line.Line.{Line}
 use Rattle.text.specs.Read.{readLine}
 use Rattle.controller.proofs.Taking.{took-lf, took-other, took-none}
-use Rattle.controller.specs.Serve.{lineAfter, recordsAfter, talliesAfter}
+use Rattle.controller.specs.Serve.{stateAfter}
 use Rattle.text.proofs.Heads.{cut, never}
-use Rattle.controller.specs.Input.{holding, answered, tookAll}
+use Rattle.controller.specs.Input.{Progress, holding, tookAll}
 use Rattle.checkweigher.specs.Sessions.{lfAmong, lineLength, endFrom, Ends}
 use Rattle.checkweigher.specs.declared.block.Session.{Session}
 
@@ -82,33 +83,36 @@ module _ (l : List ℕ) where
 -- the line and both memories are those after a line of text
 abbrev pub Answers : Line → List Settings → List ℤ → List ℕ → Line → List Settings → List ℤ → Type 0
 Answers line ss ts text k zs vs =
-    (k ≡ lineAfter line ss ts (readLine text)) × (zs ≡ recordsAfter line ss ts (readLine text)) × (vs ≡ talliesAfter line ss ts (readLine text))
+    (k ≡ stateAfter (state line ss ts) (readLine text) .line) × (zs ≡ stateAfter (state line ss ts) (readLine text) .settings) × (vs ≡ stateAfter (state line ss ts) (readLine text) .tallies)
 
-module _ (line : Line) (ss : List Settings) (ts : List ℤ) where
+module _ (st : State) where
+  abbrev after : List ℕ → Progress
+  after text = holding (stateAfter st (readLine text)) []
+
   -- up to its LF, behind the bytes before
   whole-line : (before bs : List ℕ) → lineLength bs < length bs
-      → tookAll (holding line ss ts before) bs ≡ tookAll (answered line ss ts (before ++ take (lineLength bs) bs)) (drop (lineLength bs + 1) bs)
+      → tookAll (holding st before) bs ≡ tookAll (after (before ++ take (lineLength bs) bs)) (drop (lineLength bs + 1) bs)
   whole-line before [] h = absurd (omega (arith, h, no-more))
   whole-line before (b ∷ s) h =
       by-cases (eqb b 10)
-      (λ y. rw (at-lf b s y, append-nil before) (took-lf line ss ts before b s y))
+      (λ y. rw (at-lf b s y, append-nil before) (took-lf st before b s y))
       (λ n.
       let size : suc (lineLength s) + 1 ≡ suc (lineLength s + 1) = omega arith in
       rw (before-lf b s n, size) (
-      took-other line ss ts before b s n
+      took-other st before b s n
       ∙ whole-line (before ++ b ∷ []) s (omega (arith, h, before-lf b s n))
-      ∙ ap (λ (t : List ℕ). tookAll (answered line ss ts t) (drop (lineLength s + 1) s)) (append-assoc before (b ∷ []) (take (lineLength s) s))))
+      ∙ ap (λ (t : List ℕ). tookAll (after t) (drop (lineLength s + 1) s)) (append-assoc before (b ∷ []) (take (lineLength s) s))))
 
   -- without an LF
-  pub no-line : (before bs : List ℕ) → lineLength bs ≡ length bs → tookAll (holding line ss ts before) bs ≡ holding line ss ts (before ++ bs)
-  no-line before [] h = rw (append-nil before) (took-none (holding line ss ts before))
+  pub no-line : (before bs : List ℕ) → lineLength bs ≡ length bs → tookAll (holding st before) bs ≡ holding st (before ++ bs)
+  no-line before [] h = rw (append-nil before) (took-none (holding st before))
   no-line before (b ∷ s) h =
       by-cases (eqb b 10)
       (λ y. absurd (omega (arith, h, at-lf b s y)))
       (λ n.
-      took-other line ss ts before b s n
+      took-other st before b s n
       ∙ no-line (before ++ b ∷ []) s (omega (arith, h, before-lf b s n))
-      ∙ ap (λ (t : List ℕ). holding line ss ts t) (append-assoc before (b ∷ []) s))
+      ∙ ap (λ (t : List ℕ). holding st t) (append-assoc before (b ∷ []) s))
 
 -- ---- a session's line of text
 module _ (input : List ℕ) (s : Session) (ends : Ends input s) where
@@ -119,26 +123,26 @@ module _ (input : List ℕ) (s : Session) (ends : Ends input s) where
   session-within = rw (ends .1) (end-within input (s .start) (ends .0))
 
   pub session-text : s .end < length input → (ss : List Settings) (ts : List ℤ)
-      → tookAll (holding (s .line) ss ts []) (drop (s .start) input)
-      ≡ tookAll (answered (s .line) ss ts (take (s .end - s .start) (drop (s .start) input))) (drop (s .end + 1) input)
+      → tookAll (holding (state (s .line) ss ts) []) (drop (s .start) input)
+      ≡ tookAll (holding (stateAfter (state (s .line) ss ts) (readLine (take (s .end - s .start) (drop (s .start) input)))) []) (drop (s .end + 1) input)
   session-text h ss ts =
       let bs = drop (s .start) input in
       let n = length-drop (s .start) input in
       let size : s .end - s .start ≡ lineLength bs = omega (arith, ends .1) in
       let place : s .start + (lineLength bs + 1) ≡ s .end + 1 = omega (arith, ends .1) in
       let behind : drop (lineLength bs + 1) bs ≡ drop (s .end + 1) input = drop-drop (lineLength bs + 1) (s .start) input ∙ ap (λ (k : ℕ). drop k input) place in
-      rw (size, ← behind) (whole-line (s .line) ss ts [] bs (omega (arith, h, n, ends .1)))
+      rw (size, ← behind) (whole-line (state (s .line) ss ts) [] bs (omega (arith, h, n, ends .1)))
 
   -- the session behind it, where the line and the memories are those after it
   pub session-goes : s .end < length input → (ss : List Settings) (ts : List ℤ) (r : Session) (zs : List Settings) (vs : List ℤ)
       → Answers (s .line) ss ts (take (s .end - s .start) (drop (s .start) input)) (r .line) zs vs → r .start ≡ s .end + 1
-      → tookAll (holding (r .line) zs vs []) (drop (r .start) input) ≡ tookAll (holding (s .line) ss ts []) (drop (s .start) input)
+      → tookAll (holding (state (r .line) zs vs) []) (drop (r .start) input) ≡ tookAll (holding (state (s .line) ss ts) []) (drop (s .start) input)
   session-goes h ss ts r zs vs a e = rw (a .0, a .1, a .2, e) (sym (session-text h ss ts))
 
   pub session-last : length input ≤ s .end → (ss : List Settings) (ts : List ℤ)
-      → tookAll (holding (s .line) ss ts []) (drop (s .start) input) ≡ holding (s .line) ss ts (drop (s .start) input)
+      → tookAll (holding (state (s .line) ss ts) []) (drop (s .start) input) ≡ holding (state (s .line) ss ts) (drop (s .start) input)
   session-last h ss ts =
       let bs = drop (s .start) input in
       let n = length-drop (s .start) input in
       let m = at-most bs in
-      no-line (s .line) ss ts [] bs (omega (arith, h, n, m, ends .0, ends .1))
+      no-line (state (s .line) ss ts) [] bs (omega (arith, h, n, m, ends .0, ends .1))

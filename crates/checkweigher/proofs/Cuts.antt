@@ -9,6 +9,7 @@ use lib.IntN.{ℤ}
 use lib.ListN.{length, take}
 use lib.Seq.{take-all, take-take, take-append-le, length-take-le}
 use borrow.Author.Tests.{leb-true, leb-false, lt-leb}
+use Rattle.line.specs.State.{state, freshState}
 use Rattle.laws.proofs.Tests.{by-cases}
 use Rattle.settings.specs.declared.Settings.{Settings}
 use Rattle.line.specs.declared.line.Line.{Line}
@@ -50,10 +51,10 @@ cut-took : (p : Progress) (b : ℕ) → cut (took (cut p) b) ≡ cut (took p b)
 cut-took p b =
     by-cases (eqb b 10)
     (λ y. rw (y, cut-text (p .text)) refl)
-    (λ n. rw n (ap (λ (t : List ℕ). holding (p .line) (p .records) (p .tallies) t) (cut-more (p .text) b)))
+    (λ n. rw n (ap (λ (t : List ℕ). holding (p .state) t) (cut-more (p .text) b)))
 
 pub cut-all : (s : List ℕ) (p : Progress) → cut (tookAll (cut p) s) ≡ cut (tookAll p s)
-cut-all [] p = rw (took-none (cut p), took-none p) (ap (λ (t : List ℕ). holding (p .line) (p .records) (p .tallies) t) (take-take 121 121 (p .text) (omega arith)))
+cut-all [] p = rw (took-none (cut p), took-none p) (ap (λ (t : List ℕ). holding (p .state) t) (take-take 121 121 (p .text) (omega arith)))
 cut-all (b ∷ s) p =
     ap cut (took-one (cut p) b s) ∙ sym (cut-all s (took (cut p) b)) ∙ ap (λ (q : Progress). cut (tookAll q s)) (cut-took p b) ∙ cut-all s (took p b) ∙ ap cut (sym (took-one p b s))
 
@@ -87,23 +88,23 @@ open-take (suc k) [] h = h
 open-take (suc k) (b ∷ t) h = let r = behind-lf b t h in before-lf b (take k t) (r .0) ∙ ap suc (open-take k t (r .1))
 
 -- ---- the bytes of the next read, behind what is kept
-kept-on : (p : Progress) (new : List ℕ) → Open (p .text) → cut (tookAll (holding (p .line) (p .records) (p .tallies) []) (take 121 (p .text) ++ new)) ≡ cut (tookAll p new)
+kept-on : (p : Progress) (new : List ℕ) → Open (p .text) → cut (tookAll (holding (p .state) []) (take 121 (p .text) ++ new)) ≡ cut (tookAll p new)
 kept-on p new h =
-    ap cut (took-both (holding (p .line) (p .records) (p .tallies) []) (take 121 (p .text)) new)
-    ∙ ap (λ (q : Progress). cut (tookAll q new)) (no-line (p .line) (p .records) (p .tallies) [] (take 121 (p .text)) (open-take 121 (p .text) h))
+    ap cut (took-both (holding (p .state) []) (take 121 (p .text)) new)
+    ∙ ap (λ (q : Progress). cut (tookAll q new)) (no-line (p .state) [] (take 121 (p .text)) (open-take 121 (p .text) h))
     ∙ cut-all new p
 
-pub reached-fresh : Reached (freshProgress .line) (freshProgress .records) (freshProgress .tallies) []
+pub reached-fresh : Reached (freshState .line) (freshState .settings) (freshState .tallies) []
 reached-fresh = record { input = []; held = sym (ap cut (took-none freshProgress)) }
 
 module _ (l : Line) (ss : List Settings) (ts : List ℤ) (text : List ℕ) (r : Reached l ss ts text) (new : List ℕ) where
   abbrev p : Progress
   p = tookAll freshProgress (r .input)
 
-  again : cut (tookAll (holding l ss ts []) (text ++ new)) ≡ cut (tookAll (holding (p .line) (p .records) (p .tallies) []) (take 121 (p .text) ++ new))
-  again = ap (λ (q : Progress). cut (tookAll (holding (q .line) (q .records) (q .tallies) []) (q .text ++ new))) (r .held)
+  again : cut (tookAll (holding (state l ss ts) []) (text ++ new)) ≡ cut (tookAll (holding (p .state) []) (take 121 (p .text) ++ new))
+  again = ap (λ (q : Progress). cut (tookAll (holding (q .state) []) (q .text ++ new))) (r .held)
 
-  pub reached-on : (k : Line) (zs : List Settings) (vs : List ℤ) (rest : List ℕ) → holding k zs vs rest ≡ cut (tookAll (holding l ss ts []) (text ++ new)) → Reached k zs vs rest
+  pub reached-on : (k : Line) (zs : List Settings) (vs : List ℤ) (rest : List ℕ) → holding (state k zs vs) rest ≡ cut (tookAll (holding (state l ss ts) []) (text ++ new)) → Reached k zs vs rest
   reached-on k zs vs rest e =
       record {
         input = r .input ++ new;

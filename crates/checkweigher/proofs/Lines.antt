@@ -26,6 +26,7 @@ use denote.Struct.Laws as LL
 use denote.Triple.Spec.{tripleOf}
 use denote.Triple.Statement.{Contract}
 use denote.Triple.Clauses.{ensured, lasts}
+use Rattle.line.specs.State.{state}
 use Rattle.settings.specs.declared.Settings.{Settings}
 use Rattle.settings.proofs.Settings as T
 use Rattle.walks.proofs.Lending.{ref, result-is, result-rel}
@@ -33,7 +34,7 @@ use Rattle.line.specs.declared.line.Line.{Line}
 use Rattle.line.proofs.line.Line as L
 use Rattle.line.proofs.line.Line.Laws as L′
 use Rattle.text.specs.Read.{readLine}
-use Rattle.controller.specs.Serve.{servedBy, recordsAfter, talliesAfter, outputAfter}
+use Rattle.controller.specs.Serve.{servedBy, stateAfter, outputAfter}
 use Rattle.controller.specs.declared.Served.{Served}
 use Rattle.controller.proofs.Served as O
 use Rattle.controller.proofs.Served.Laws as O′
@@ -102,9 +103,9 @@ module _ {M : Type 1} (𝓤 : URA M) (H : Heap 𝓤) (A : Atoms 𝓤) (mem : Mem
     ended-serve w =
         qed W (raw (Serve .post to-serve w) ∷ []) ∵ updating ! $
         use1 W (later (some (λ (r : Served). ((‵ (flft κ q) ⊛ (‵ (flft κ₁ q₁) ⊛ (‵ (flft κ₂ q₂) ⊛ (‵ (flft κ₃ q₃) ⊛ ‵ ftrue)))) ⊛ ‵ (O.the-row .own r (w ∷ []))) ⊛ raw (ensured 𝓤 H A serve.ended (serve.clauses 𝓤 H A mem run) (κ, (κ₁, (κ₂, (κ₃, tt)))) args tt r)))) (id⊢ 𝓤 _) $ await ! tt $ pick ! (λ r.
-        split ! $ move ! (1 ∷ []) $ use1 W (some (λ (ws : Lasts). ‵ (lasts serve.ended (κ, (κ₁, (κ₂, (κ₃, tt)))) args ws) ⊛ (raw (fact 𝓤 (r ≡ servedBy line ys ts (readLine tx) us at)) ⊛ (raw (fact 𝓤 (ws .1 .0 ≡ recordsAfter line ys ts (readLine tx))) ⊛
-        (raw (fact 𝓤 (ws .1 .1 .0 ≡ talliesAfter line ys ts (readLine tx))) ⊛ raw (fact 𝓤 (ws .1 .1 .1 .1 .0 ≡ outputAfter line ys ts (readLine tx) us at))))))) (id⊢ 𝓤 _) $ pick ! (λ ws. split ! $
-        move ! (1 ∷ []) $ split ! $ heard ! (r ≡ servedBy line ys ts (readLine tx) us at) (λ e. split ! $ heard ! (ws .1 .0 ≡ recordsAfter line ys ts (readLine tx)) (λ e₁. split ! $ heard ! (ws .1 .1 .0 ≡ talliesAfter line ys ts (readLine tx)) (λ e₂. drop ! $
+        split ! $ move ! (1 ∷ []) $ use1 W (some (λ (ws : Lasts). ‵ (lasts serve.ended (κ, (κ₁, (κ₂, (κ₃, tt)))) args ws) ⊛ (raw (fact 𝓤 (r ≡ servedBy (state line ys ts) (readLine tx) us at)) ⊛ (raw (fact 𝓤 (ws .1 .0 ≡ stateAfter (state line ys ts) (readLine tx) .settings)) ⊛
+        (raw (fact 𝓤 (ws .1 .1 .0 ≡ stateAfter (state line ys ts) (readLine tx) .tallies)) ⊛ raw (fact 𝓤 (ws .1 .1 .1 .1 .0 ≡ outputAfter (state line ys ts) (readLine tx) us at))))))) (id⊢ 𝓤 _) $ pick ! (λ ws. split ! $
+        move ! (1 ∷ []) $ split ! $ heard ! (r ≡ servedBy (state line ys ts) (readLine tx) us at) (λ e. split ! $ heard ! (ws .1 .0 ≡ stateAfter (state line ys ts) (readLine tx) .settings) (λ e₁. split ! $ heard ! (ws .1 .1 .0 ≡ stateAfter (state line ys ts) (readLine tx) .tallies) (λ e₂. drop ! $
         fsplit ! $ drop ! $ fsplit ! $ fsplit ! $ move ! (1 ∷ []) $ feqL ! (λ m. move ! (1 ∷ []) $ fsplit ! $ fsplit ! $ move ! (1 ∷ []) $ feqL ! (λ m₁. move ! (1 ∷ []) $ fsplit ! $ drop ! $ fsplit ! $ fsplit ! $ move ! (1 ∷ []) $ feqL ! (λ m₃.
         -- [the last output; the other lasts; the last tallies; the last records; the tokens and the result]
         move ! (4 ∷ []) $ split ! $ move ! (1 ∷ []) $ facts ! O.the-row (Is O.the-row) (shows 𝓤 H A O.the-row) r (w ∷ []) (λ is. split ! $ move ! (1 ∷ []) $ split ! $ move ! (1 ∷ []) $ split ! $ move ! (1 ∷ []) $ split ! $ at-once ! $

@@ -6,6 +6,7 @@ use mathlib.Core.List.{List, [], _∷_}
 use lib.Dec.{eqb}
 use lib.IntN.{ℤ}
 use lib.ListN.{length, getD, drop}
+use Rattle.line.specs.State.{state}
 use Rattle.laws.specs.Choice.{if_then_else_}
 use Rattle.settings.specs.declared.Settings.{Settings}
 use Rattle.line.specs.declared.line.Line.{Line}
@@ -40,4 +41,4 @@ Follows l input lf s = (s .line ≡ l) × (lf < length input → s .start ≡ lf
 
 -- the line and both memories, with the bytes from start on for the line of text that has begun, are p
 abbrev pub TookUpTo : Progress → List ℕ → Line → List Settings → List ℤ → ℕ → Type 0
-TookUpTo p input l ss ts start = (start ≤ length input) × (holding l ss ts (drop start input) ≡ p)
+TookUpTo p input l ss ts start = (start ≤ length input) × (holding (state l ss ts) (drop start input) ≡ p)

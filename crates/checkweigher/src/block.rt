@@ -3,6 +3,7 @@ ghost use Prim.Native.Nat.{_≤_};
 ghost use mathlib.Core.Path.{_≡_};
 ghost use mathlib.Core.List.{[]};
 ghost use lib.ListN.{length, drop};
+ghost use Rattle.line.specs.State.{state};
 ghost use Rattle.controller.specs.Input.{holding, tookAll};
 ghost use Rattle.checkweigher.specs.Sessions.{lfAmong, endFrom, Ends, Begins, Follows, TookUpTo};
 use crate::output::room_made;
@@ -10,12 +11,13 @@ use crate::output::write_out;
 use controller::Served;
 use controller::serve;
 use line::Line;
+use settings::RECORDS;
 use settings::Settings;
 
 // What a block leaves: the line, the settings records, and where what is left of the block begins.
 pub(crate) struct Block {
     pub(crate) line: Line,
-    pub(crate) settings: [Settings; 100],
+    pub(crate) settings: [Settings; RECORDS as usize],
     pub(crate) start: usize,
 }
 
@@ -138,7 +140,7 @@ pub(crate) fn serve_lines(
     out: &mut [u8],
 ) -> Session
     requires { ⌜ Ends (now input) session ⌝ }
-    ensures { λ r. ⌜ TookUpTo (tookAll (holding (session .line) (now (records .entry)) (now (tallies .entry)) []) (drop (session .start) (now (input .entry)))) (now (input .entry)) (r .line) (now (records .exit)) (now (tallies .exit)) (r .start) ⌝ }
+    ensures { λ r. ⌜ TookUpTo (tookAll (holding (state (session .line) (now (records .entry)) (now (tallies .entry))) []) (drop (session .start) (now (input .entry)))) (now (input .entry)) (r .line) (now (records .exit)) (now (tallies .exit)) (r .start) ⌝ }
 {
     let mut s = session;
     while s.end < input.len() {
@@ -149,7 +151,7 @@ pub(crate) fn serve_lines(
 }
 
 // A session's end with the records that were lent to it. Whole values go in and out, which keeps the walk of `serve_block` small.
-pub(crate) fn rest(last: Session, settings: [Settings; 100]) -> Block
+pub(crate) fn rest(last: Session, settings: [Settings; RECORDS as usize]) -> Block
     ensures { λ r. ⌜ (r .line ≡ last .line) × (r .settings ≡ settings) × (r .start ≡ last .start) ⌝ }
 {
     let line = last.line;
@@ -163,12 +165,12 @@ pub(crate) fn rest(last: Session, settings: [Settings; 100]) -> Block
 // The complete lines of a block, with the line's own records lent to each.
 pub(crate) fn serve_block(
     line: Line,
-    settings: [Settings; 100],
+    settings: [Settings; RECORDS as usize],
     tallies: &mut [i64],
     input: &[u8],
     out: &mut [u8],
 ) -> Block
-    ensures { λ r. ⌜ TookUpTo (tookAll (holding line settings (now (tallies .entry)) []) (now (input .entry))) (now (input .entry)) (r .line) (r .settings) (now (tallies .exit)) (r .start) ⌝ }
+    ensures { λ r. ⌜ TookUpTo (tookAll (holding (state line settings (now (tallies .entry))) []) (now (input .entry))) (now (input .entry)) (r .line) (r .settings) (now (tallies .exit)) (r .start) ⌝ }
 {
     let mut records = settings;
     let session = begin(line, input);

@@ -4,15 +4,18 @@ ghost use Prim.Native.Nat.{_<_, _≤_};
 ghost use mathlib.Core.Path.{_≡_};
 ghost use mathlib.Core.List.{[]};
 ghost use lib.ListN.{length, take, drop};
+ghost use Rattle.line.specs.State.{state};
 ghost use Rattle.controller.specs.Input.{holding, tookAll};
-ghost use Rattle.checkweigher.specs.Reads.{keptLength, cut};
+ghost use Rattle.checkweigher.specs.Reads.{keptBytes, keptLength, cut};
 use crate::block::serve_block;
 use libc::STDIN_FILENO;
 use line::Line;
+use settings::RECORDS;
 use settings::Settings;
+use text::LONGEST_LINE;
 
 // A line over 120 bytes is refused whatever follows: so much of it stands for all of it.
-const KEPT: usize = 121;
+const KEPT: usize = LONGEST_LINE + 1;
 
 // How much is kept of a line so long.
 fn kept(length: usize) -> usize
@@ -27,7 +30,7 @@ fn kept(length: usize) -> usize
 // Moves what is left at `start` to the front, and answers how long it is.
 fn keep(input: &mut [u8], start: usize, end: usize) -> usize
     requires { ⌜ (start ≤ end) × (end ≤ length (now input)) ⌝ }
-    ensures { λ r. ⌜ (r ≤ 121) × (length (now (input .exit)) ≡ length (now (input .entry))) × (take r (now (input .exit)) ≡ take 121 (drop start (take end (now (input .entry))))) ⌝ }
+    ensures { λ r. ⌜ (r ≤ keptBytes) × (length (now (input .exit)) ≡ length (now (input .entry))) × (take r (now (input .exit)) ≡ take keptBytes (drop start (take end (now (input .entry))))) ⌝ }
 {
     let n = kept(end - start);
     let mut i = 0;
@@ -53,21 +56,21 @@ fn read_behind(input: &mut [u8], held: usize) -> usize
 // of the input.
 struct Held {
     line: Line,
-    settings: [Settings; 100],
+    settings: [Settings; RECORDS as usize],
     held: usize,
 }
 
 // The input's first bytes up to `end`: the complete lines are answered, and what is left moves to the front.
 fn serve_read(
     line: Line,
-    settings: [Settings; 100],
+    settings: [Settings; RECORDS as usize],
     tallies: &mut [i64],
     input: &mut [u8],
     end: usize,
     out: &mut [u8],
 ) -> Held
     requires { ⌜ end ≤ length (now input) ⌝ }
-    ensures { λ r. ⌜ (r .held ≤ 121) × (length (now (input .exit)) ≡ length (now (input .entry))) × (holding (r .line) (r .settings) (now (tallies .exit)) (take (r .held) (now (input .exit))) ≡ cut (tookAll (holding line settings (now (tallies .entry)) []) (take end (now (input .entry))))) ⌝ }
+    ensures { λ r. ⌜ (r .held ≤ keptBytes) × (length (now (input .exit)) ≡ length (now (input .entry))) × (holding (state (r .line) (r .settings) (now (tallies .exit))) (take (r .held) (now (input .exit))) ≡ cut (tookAll (holding (state line settings (now (tallies .entry))) []) (take end (now (input .entry))))) ⌝ }
 {
     let block = serve_block(line, settings, &mut *tallies, &input[0..end], &mut *out);
     let held = keep(&mut *input, block.start, end);
@@ -83,7 +86,7 @@ fn serve_read(
 // The last line, where no LF ends it.
 fn serve_last(
     line: Line,
-    settings: [Settings; 100],
+    settings: [Settings; RECORDS as usize],
     tallies: &mut [i64],
     input: &mut [u8],
     held: usize,
@@ -102,9 +105,9 @@ fn serve_last(
 pub(crate) fn serve_input() {
     let mut input = io::large_buffer();
     let mut out = io::large_buffer();
-    let mut tallies = [0i64; 1300];
+    let mut tallies = [0i64; tallies::LENGTH];
     let mut line = Line::fresh();
-    let mut settings = [Settings::blank(); 100];
+    let mut settings = [Settings::blank(); RECORDS as usize];
     let mut held = 0;
     let mut reads = u64::MAX;
     while reads > 0 {

@@ -34,7 +34,8 @@ use Rattle.line.specs.declared.step.Step.{Step}
 use Rattle.sheet.specs.declared.answer.Report.{Report}
 use Rattle.sheet.specs.Report.{reportOn}
 use Rattle.line.specs.Tallying.{stepIn}
-use Rattle.line.specs.Step.{stepOn, settingsAfter}
+use Rattle.line.specs.State.{state}
+use Rattle.line.specs.Step.{outOn, stepOn}
 use Rattle.settings.proofs.Settings as T
 use Rattle.line.proofs.line.Line as L
 use Rattle.line.proofs.line.Line.Laws as L′
@@ -109,7 +110,7 @@ module _ {M : Type 1} (𝓤 : URA M) (H : Heap 𝓤) (A : Atoms 𝓤) (mem : Mem
 
       -- the step r at the machine value w, and the last lists ss and us: variables, so that the terms stay small
       abbrev Stepped : Val → Step → List Settings → List ℤ → SProp 𝓤
-      Stepped w r ss us = guard 𝓤 (r ≡ stepIn (stepOn line ys ts ev)) (guard 𝓤 (ss ≡ settingsAfter line ys ts ev) (guard 𝓤 (us ≡ stepOn line ys ts ev .tallies)
+      Stepped w r ss us = guard 𝓤 (r ≡ stepIn (outOn (state line ys ts) ev)) (guard 𝓤 (ss ≡ stepOn (state line ys ts) ev .state .settings) (guard 𝓤 (us ≡ stepOn (state line ys ts) ev .state .tallies)
           (guard 𝓤 (Is N.the-row r (w ∷ [])) (guard 𝓤 (length ss ≡ length ys) (guard 𝓤 (length us ≡ length ts)
           (sep 𝓤 (sem 𝓤 H A (finally T.the-row γ ss)) (sep 𝓤 (A .lft κ q) (sep 𝓤 (sem 𝓤 H A (finally i64 γ₁ us)) (A .lft κ₁ q₁)))))))))
 
@@ -123,8 +124,8 @@ module _ {M : Type 1} (𝓤 : URA M) (H : Heap 𝓤) (A : Atoms 𝓤) (mem : Mem
       ended-apply w =
           qed W (raw (Apply .post to-apply w) ∷ []) ∵ updating ! $
           use1 W (later (some (λ (r : Step). ((‵ (flft κ q) ⊛ (‵ (flft κ₁ q₁) ⊛ ‵ ftrue)) ⊛ ‵ (N.the-row .own r (w ∷ []))) ⊛ raw (ensured 𝓤 H A apply.ended (apply.clauses 𝓤 H A mem run) (κ, (κ₁, tt)) args-a tt r)))) (id⊢ 𝓤 _) $ await ! tt $ pick ! (λ r.
-          split ! $ move ! (1 ∷ []) $ use1 W (some (λ (ws : Unit {0} × (List Settings × (List ℤ × (Unit {0} × Unit {0})))). ‵ (lasts apply.ended (κ, (κ₁, tt)) args-a ws) ⊛ (raw (fact 𝓤 (r ≡ stepIn (stepOn line ys ts ev))) ⊛ (raw (fact 𝓤 (ws .1 .0 ≡ settingsAfter line ys ts ev)) ⊛ raw (fact 𝓤 (ws .1 .1 .0 ≡ stepOn line ys ts ev .tallies)))))) (id⊢ 𝓤 _) $ pick ! (λ ws.
-          split ! $ move ! (1 ∷ []) $ split ! $ heard ! (r ≡ stepIn (stepOn line ys ts ev)) (λ e. split ! $ heard ! (ws .1 .0 ≡ settingsAfter line ys ts ev) (λ e₁. heard ! (ws .1 .1 .0 ≡ stepOn line ys ts ev .tallies) (λ e₂.
+          split ! $ move ! (1 ∷ []) $ use1 W (some (λ (ws : Unit {0} × (List Settings × (List ℤ × (Unit {0} × Unit {0})))). ‵ (lasts apply.ended (κ, (κ₁, tt)) args-a ws) ⊛ (raw (fact 𝓤 (r ≡ stepIn (outOn (state line ys ts) ev))) ⊛ (raw (fact 𝓤 (ws .1 .0 ≡ stepOn (state line ys ts) ev .state .settings)) ⊛ raw (fact 𝓤 (ws .1 .1 .0 ≡ stepOn (state line ys ts) ev .state .tallies)))))) (id⊢ 𝓤 _) $ pick ! (λ ws.
+          split ! $ move ! (1 ∷ []) $ split ! $ heard ! (r ≡ stepIn (outOn (state line ys ts) ev)) (λ e. split ! $ heard ! (ws .1 .0 ≡ stepOn (state line ys ts) ev .state .settings) (λ e₁. heard ! (ws .1 .1 .0 ≡ stepOn (state line ys ts) ev .state .tallies) (λ e₂.
           fsplit ! $ drop ! $ fsplit ! $ fsplit ! $ move ! (1 ∷ []) $ feqL ! (λ m.
           -- [the last records; the other lasts; the tokens and the result]
           move ! (1 ∷ []) $ fsplit ! $ fsplit ! $ move ! (1 ∷ []) $ feqL ! (λ m₁.

@@ -4,10 +4,10 @@ use mathlib.Core.Bool.{true, false}
 use mathlib.Core.List.{List, [], _∷_, _++_}
 use Prim.Native.Nat.{ℕ}
 use lib.Dec.{eqb}
-use lib.IntN.{ℤ}
-use Rattle.settings.specs.declared.Settings.{Settings}
-use Rattle.line.specs.declared.line.Line.{Line}
-use Rattle.controller.specs.Input.{Progress, holding, answered, took, tookAll}
+use Rattle.line.specs.State.{State}
+use Rattle.text.specs.Read.{readLine}
+use Rattle.controller.specs.Serve.{stateAfter}
+use Rattle.controller.specs.Input.{Progress, holding, took, tookAll}
 
 pub took-one : (p : Progress) (b : ℕ) (s : List ℕ) → tookAll p (b ∷ s) ≡ tookAll (took p b) s
 unfolding tookAll
@@ -21,9 +21,9 @@ pub took-both : (p : Progress) (s r : List ℕ) → tookAll p (s ++ r) ≡ tookA
 took-both p [] r = ap (λ (q : Progress). tookAll q r) (sym (took-none p))
 took-both p (b ∷ s) r = took-one p b (s ++ r) ∙ took-both (took p b) s r ∙ ap (λ (q : Progress). tookAll q r) (sym (took-one p b s))
 
-module _ (line : Line) (ss : List Settings) (ts : List ℤ) where
-  pub took-lf : (text : List ℕ) (b : ℕ) (s : List ℕ) → eqb b 10 ≡ true → tookAll (holding line ss ts text) (b ∷ s) ≡ tookAll (answered line ss ts text) s
-  took-lf text b s e = took-one (holding line ss ts text) b s ∙ rw e refl
+module _ (st : State) where
+  pub took-lf : (text : List ℕ) (b : ℕ) (s : List ℕ) → eqb b 10 ≡ true → tookAll (holding st text) (b ∷ s) ≡ tookAll (holding (stateAfter st (readLine text)) []) s
+  took-lf text b s e = took-one (holding st text) b s ∙ rw e refl
 
-  pub took-other : (text : List ℕ) (b : ℕ) (s : List ℕ) → eqb b 10 ≡ false → tookAll (holding line ss ts text) (b ∷ s) ≡ tookAll (holding line ss ts (text ++ b ∷ [])) s
-  took-other text b s e = took-one (holding line ss ts text) b s ∙ rw e refl
+  pub took-other : (text : List ℕ) (b : ℕ) (s : List ℕ) → eqb b 10 ≡ false → tookAll (holding st text) (b ∷ s) ≡ tookAll (holding st (text ++ b ∷ [])) s
+  took-other text b s e = took-one (holding st text) b s ∙ rw e refl

@@ -25,6 +25,7 @@ use denote.Builtin.{i64, u8, u64, usize}
 use denote.Ref.{RefT}
 use denote.Slice.{sliceVal, MutSlice, ShrSlice, finally}
 use denote.Steps.{owned, facts, heard, nothing}
+use denote.Struct.Laws as LL
 use denote.Enum.Laws as EL
 use denote.Triple.Spec.{tripleOf}
 use denote.Triple.Statement.{Contract}
@@ -97,7 +98,7 @@ module _ {M : Type 1} (𝓤 : URA M) (H : Heap 𝓤) (A : Atoms 𝓤) (mem : Mem
       pub asks-report : ent 𝓤 (sep 𝓤 (sem 𝓤 H A Own) (A .lft κ q)) (PutReport .pre to-report)
       asks-report =
           qed W (‵ Own ∷ ‵ (flft κ q) ∷ []) ∵ nothing ! $ move ! (2 ∷ 0 ∷ []) $ join ! $
-          nothing ! $ owned ! P.the-row (Is P.the-row) (EL.makes P.the-type P′.the-plain 𝓤 H A) rep (P′.lowered rep ∷ []) rep-is $ fjoin ! $ owned ! u64 (Is u64) (uint-makes 𝓤 H A W w64) code _ (refl, code-fits) $ fjoin ! $
+          nothing ! $ owned ! P.the-row (Is P.the-row) (LL.makes P.the-type P′.the-plain 𝓤 H A) rep (P′.lowered rep ∷ []) rep-is $ fjoin ! $ owned ! u64 (Is u64) (uint-makes 𝓤 H A W w64) code _ (refl, code-fits) $ fjoin ! $
           owned ! usize (Is usize) (uint-makes 𝓤 H A W w64) at _ (refl, at-fits) $ fjoin ! $ move ! (2 ∷ 0 ∷ []) $ fjoin ! $ move ! (1 ∷ 0 ∷ []) $ join ! $ frame ! $ done !
 
       pub ended-report : (w : Val) → ent 𝓤 (PutReport .post to-report w) (H .⇛ (guard 𝓤 (w ≡ vint w64 end-p) (guard 𝓤 (end-p < 2 ^ 64) (guard 𝓤 (length zs-p ≡ length us) (sep 𝓤 (sem 𝓤 H A (finally u8 γ zs-p)) (A .lft κ q))))))

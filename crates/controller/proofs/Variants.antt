@@ -22,13 +22,14 @@ use Rattle.sheet.specs.Report.{reportOn}
 use Rattle.line.specs.declared.line.Line.{Line}
 use Rattle.line.specs.declared.step.Step.{Step}
 use Rattle.line.specs.Tallying.{stepIn}
-use Rattle.line.specs.Step.{stepOn, settingsAfter}
+use Rattle.line.specs.State.{state}
+use Rattle.line.specs.Step.{outOn, stepOn}
 use Rattle.text.specs.declared.Read.{Read}
 use Rattle.text.specs.declared.Read.the-variants as Said
 use Rattle.text.proofs.Read as D
 use Rattle.text.proofs.Read.Laws as D′
 use Rattle.controller.specs.Answer.{Answer, replyAnswer, reportAnswer, refusedAnswer}
-use Rattle.controller.specs.Serve.{otherAnswer, answerTo, lineAfter, recordsAfter, talliesAfter}
+use Rattle.controller.specs.Serve.{otherAnswer, answerTo, stateAfter}
 
 pub record Tagged (r : Read) (ks ns : List ℕ) : Type 0 where
   pub tag : ℕ
@@ -64,19 +65,19 @@ event-is e g = let p = EL.owed D.the-type D′.the-laws (Said.Event e) _ g .0 in
 
 -- ---- in `serve`: the line, the records, the tallies and the answer
 pub record After (r : Read) (l : Line) (ss : List Settings) (ts : List ℤ) (next : Line) (records : List Settings) (tallies : List ℤ) (a : Answer) : Type 0 where
-  pub line : next ≡ lineAfter l ss ts r
-  pub stored : records ≡ recordsAfter l ss ts r
-  pub tallied : tallies ≡ talliesAfter l ss ts r
-  pub answer : a ≡ answerTo l ss ts r
+  pub line : next ≡ stateAfter (state l ss ts) r .line
+  pub stored : records ≡ stateAfter (state l ss ts) r .settings
+  pub tallied : tallies ≡ stateAfter (state l ss ts) r .tallies
+  pub answer : a ≡ answerTo (state l ss ts) r
 
 pub record AsEvent (r : Read) (e : Event) : Type 0 where
   pub value : Val
   pub val : D′.lowered r ≡ live 0 (vcons value vnil)
   pub holds : Is D.the-row r (D′.lowered r ∷ []) → Is E.the-row e (value ∷ [])
-  pub after : (l : Line) (ss : List Settings) (ts : List ℤ) → After r l ss ts (stepOn l ss ts e .line) (settingsAfter l ss ts e) (stepOn l ss ts e .tallies) (replyAnswer (stepOn l ss ts e .reply))
+  pub after : (l : Line) (ss : List Settings) (ts : List ℤ) → After r l ss ts (stepOn (state l ss ts) e .state .line) (stepOn (state l ss ts) e .state .settings) (stepOn (state l ss ts) e .state .tallies) (replyAnswer (stepOn (state l ss ts) e .reply))
 
 -- what `apply` says of the event
-pub after-step : {r : Read} {e : Event} → AsEvent r e → (l : Line) (ss xs : List Settings) (ts ws : List ℤ) (made : Step) → made ≡ stepIn (stepOn l ss ts e) → xs ≡ settingsAfter l ss ts e → ws ≡ stepOn l ss ts e .tallies
+pub after-step : {r : Read} {e : Event} → AsEvent r e → (l : Line) (ss xs : List Settings) (ts ws : List ℤ) (made : Step) → made ≡ stepIn (outOn (state l ss ts) e) → xs ≡ stepOn (state l ss ts) e .state .settings → ws ≡ stepOn (state l ss ts) e .state .tallies
     → After r l ss ts (made .line) xs ws (replyAnswer (made .reply))
 after-step v l ss xs ts ws made d d₁ d₂ = record {
   line = ap (λ (y : Step). y .line) d ∙ v .after l ss ts .line;
@@ -90,7 +91,7 @@ pub record AsOther (r : Read) : Type 0 where
   pub tagged : Tagged r (1 ∷ 2 ∷ []) (0 ∷ [])
 
 pub event-or : (r : Read) → ((e : Event) × AsEvent r e) ⊎ AsOther r
-unfolding otherAnswer answerTo lineAfter recordsAfter talliesAfter
+unfolding otherAnswer answerTo stateAfter
 event-or (Said.Event e) = inl (e, record { value = E′.lowered e; val = refl; holds = event-is e; after = λ l ss ts. record { line = refl; stored = refl; tallied = refl; answer = refl } })
 event-or (Said.Report c) = inr (record {
   after = λ l ss ts. record { line = refl; stored = refl; tallied = refl; answer = refl };

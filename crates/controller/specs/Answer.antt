@@ -1,15 +1,12 @@
 -- 01, "Text lines": what is answered to a line of text, and where in a lent buffer it is written.
 use Prim.Native.Nat.{ℕ, _+_}
-use mathlib.Core.Bool.{_&&_}
 use mathlib.Core.List.{List, _++_}
 use lib.Dec.{eqb}
 use lib.IntN.{ℤ}
 use lib.ListN.{length, take, drop}
 use Rattle.laws.specs.Choice.{if_then_else_}
-use Rattle.settings.specs.Settings.{settingsLength}
-use Rattle.tallies.specs.Memory.{talliesLength}
+use Rattle.refusal.specs.Rows.{lengthsWrong}
 use Rattle.sheet.specs.declared.answer.Report.{Report}
-use Rattle.sheet.specs.declared.answer.Report.the-variants as report
 use Rattle.sheet.specs.declared.sheet.Sheet.{Sheet}
 use Rattle.event.specs.declared.reply.Reply.{Reply}
 use Rattle.event.specs.declared.reply.Reply.the-variants.{Refused}
@@ -30,12 +27,12 @@ sheetAnswer code s = record { room = sheetRoom; text = sheetText code s }
 
 -- a report's refusal, or the code's sheet
 abbrev pub reportAnswer : ℕ → Report → Answer
-reportAnswer code (report.Refused number) = replyAnswer (Refused number 0)
-reportAnswer code (report.Printed s) = sheetAnswer code s
+reportAnswer code r =
+    if eqb (r .number) 0 then sheetAnswer code (r .sheet) else replyAnswer (Refused (r .number) (r .input))
 
 -- "A line that reads as no event and no report is refused 1"; "Every call checks both lengths" (8) before that
 abbrev pub textRefusal : ℕ → List ℤ → ℕ
-textRefusal count ts = if eqb count settingsLength && eqb (length ts) talliesLength then 1 else 8
+textRefusal count ts = if lengthsWrong count ts then 8 else 1
 
 abbrev pub refusedAnswer : ℕ → List ℤ → Answer
 refusedAnswer count ts = replyAnswer (Refused (textRefusal count ts) 0)

@@ -2,42 +2,28 @@
 use Prim.Native.Nat.{ℕ}
 use mathlib.Core.List.{List, [], _∷_, _++_}
 use lib.Dec.{eqb}
-use lib.IntN.{ℤ}
-use lib.ListN.{replicate}
 use Rattle.laws.specs.Choice.{if_then_else_}
-use Rattle.settings.specs.Settings.{blank, settingsLength}
-use Rattle.settings.specs.declared.Settings.{Settings}
-use Rattle.tallies.specs.Memory.{zeros, talliesLength}
-use Rattle.line.specs.Line.{freshLine}
-use Rattle.line.specs.declared.line.Line.{Line}
+use Rattle.line.specs.State.{State, freshState}
 use Rattle.text.specs.Read.{readLine}
-use Rattle.controller.specs.Serve.{lineAfter, recordsAfter, talliesAfter}
+use Rattle.controller.specs.Serve.{stateAfter}
 
--- what the program holds: the line, both memories, and the line of text that has begun
+-- what the program holds: the line with both memories, and the line of text that has begun
 pub record Progress : Type 0 where
-  pub line : Line
-  pub records : List Settings
-  pub tallies : List ℤ
+  pub state : State
   pub text : List ℕ
 
-abbrev pub holding : Line → List Settings → List ℤ → List ℕ → Progress
-holding l ss ts text = record { line = l; records = ss; tallies = ts; text = text }
+abbrev pub holding : State → List ℕ → Progress
+holding s text = record { state = s; text = text }
 
 -- "from a fresh line and memory"
 abbrev pub freshProgress : Progress
-freshProgress = holding freshLine (replicate settingsLength blank) (zeros talliesLength) []
+freshProgress = holding freshState []
 
--- a complete line of text goes through the controller
-abbrev pub answered : Line → List Settings → List ℤ → List ℕ → Progress
-answered l ss ts text =
-    let said = readLine text in
-    holding (lineAfter l ss ts said) (recordsAfter l ss ts said) (talliesAfter l ss ts said) []
-
--- a byte: LF ends the line of text, any other is a part of it
+-- a byte: LF ends the line of text, which goes through the controller; any other is a part of it
 abbrev pub took : Progress → ℕ → Progress
 took p b =
-    if eqb b 10 then answered (p .line) (p .records) (p .tallies) (p .text)
-    else holding (p .line) (p .records) (p .tallies) (p .text ++ b ∷ [])
+    if eqb b 10 then holding (stateAfter (p .state) (readLine (p .text))) []
+    else holding (p .state) (p .text ++ b ∷ [])
 
 unfoldable pub tookAll : Progress → List ℕ → Progress
 tookAll p [] = p

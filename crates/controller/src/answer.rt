@@ -32,25 +32,24 @@ pub(crate) fn put_report(out: &mut [u8], at: usize, code: u64, r: Report) -> usi
     ensures end { λ n. ⌜ n ≡ endAt at (reportAnswer code r) (now (out .entry)) ⌝ }
     ensures output { λ n. ⌜ now (out .exit) ≡ putAt at (reportAnswer code r) (now (out .entry)) ⌝ }
 {
-    match r {
-        Report::Refused(number) => {
-            let reply = Reply::Refused {
-                number: number,
-                input: 0,
-            };
-            put_reply(out, at, reply)
-        }
-        Report::Printed(s) => put_sheet(out, at, code, s),
+    if r.number == 0 {
+        let s = r.sheet;
+        return put_sheet(out, at, code, s);
     }
+    let reply = Reply::Refused {
+        number: r.number,
+        input: r.input,
+    };
+    put_reply(out, at, reply)
 }
 
 fn refusal_of_text(count: usize, tallies: &[i64]) -> u64
     ensures { λ r. ⌜ r ≡ textRefusal count (now (tallies .entry)) ⌝ }
 {
-    if (count == 100) & (tallies.len() == 1300) {
-        return 1;
+    if refusal::lengths_wrong(count as u64, tallies) {
+        return 8;
     }
-    8
+    1
 }
 
 // The refusal of text that is no event and no report.

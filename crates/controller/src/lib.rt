@@ -17,18 +17,26 @@
 //         Reply::Refused { number, input } => ..       nothing has changed
 //     }
 //
+// `step.storing` is the settings record that the event replaced, if any. A `Plant` is a line that owns its records:
+//
+//     let turned = Plant::fresh().turn(&mut tallies, Event::Run);
+//
+// Whoever runs its events so, one after another, is after each of them where the claim over every list of events says.
+//
 // It refuses with the number of the first condition that holds: 8 memory of a wrong length or unfit, 2 a field out of range,
 // 3 the wrong status, 4 a contradiction, 5 a required safety input off (`input` says which), 6 run with a box on the scale,
 // 7 nothing to cancel.
 //
-// `report` is a code's sheet; the memories are only read. It refuses 8, memory, and 2, a code out of range.
+// `report` is a code's sheet, where its `number` is 0; the memories are only read. It refuses 8, memory, and 2, a code out
+// of range.
 //
 // `serve` is either as a line of text, answered as text. Text that is neither is refused 1.
 //
 // No call has a condition that its caller must see to.
 ghost use mathlib.Core.Path.{_≡_};
 ghost use Rattle.controller.specs.Answer.{replyAnswer, putAt, endAt};
-ghost use Rattle.controller.specs.Serve.{otherAnswer, servedStep, servedBy, recordsAfter, talliesAfter, outputAfter};
+ghost use Rattle.controller.specs.Serve.{otherAnswer, servedStep, stateAfter, servedBy, outputAfter};
+ghost use Rattle.line.specs.State.{state};
 ghost use Rattle.text.specs.Read.{readLine};
 
 mod answer;
@@ -43,11 +51,16 @@ pub use event::Sample;
 pub use event::Setup;
 pub use line::Line;
 pub use line::Step;
+pub use line::Storing;
+pub use replay::Plant;
+pub use replay::Turned;
 pub use settings::Settings;
 pub use sheet::Report;
 pub use sheet::Sheet;
 pub use sheet::report;
+pub use spread::Spread;
 use text::Read;
+pub use weight::Figure;
 
 // The next line, and where the output ends.
 pub struct Served {
@@ -91,10 +104,10 @@ pub fn serve(
     out: &mut [u8],
     at: usize,
 ) -> Served
-    ensures answer { λ r. ⌜ r ≡ servedBy line (now (records .entry)) (now (tallies .entry)) (readLine (now (text .entry))) (now (out .entry)) at ⌝ }
-    ensures settings { λ r. ⌜ now (records .exit) ≡ recordsAfter line (now (records .entry)) (now (tallies .entry)) (readLine (now (text .entry))) ⌝ }
-    ensures memory { λ r. ⌜ now (tallies .exit) ≡ talliesAfter line (now (records .entry)) (now (tallies .entry)) (readLine (now (text .entry))) ⌝ }
-    ensures output { λ r. ⌜ now (out .exit) ≡ outputAfter line (now (records .entry)) (now (tallies .entry)) (readLine (now (text .entry))) (now (out .entry)) at ⌝ }
+    ensures answer { λ r. ⌜ r ≡ servedBy (state line (now (records .entry)) (now (tallies .entry))) (readLine (now (text .entry))) (now (out .entry)) at ⌝ }
+    ensures settings { λ r. ⌜ now (records .exit) ≡ stateAfter (state line (now (records .entry)) (now (tallies .entry))) (readLine (now (text .entry))) .settings ⌝ }
+    ensures memory { λ r. ⌜ now (tallies .exit) ≡ stateAfter (state line (now (records .entry)) (now (tallies .entry))) (readLine (now (text .entry))) .tallies ⌝ }
+    ensures output { λ r. ⌜ now (out .exit) ≡ outputAfter (state line (now (records .entry)) (now (tallies .entry))) (readLine (now (text .entry))) (now (out .entry)) at ⌝ }
 {
     let said = text::read_line(text);
     let Read::Event(e) = said else {

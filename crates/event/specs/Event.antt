@@ -1,16 +1,10 @@
 -- 01, "Events" and refusals 2 and 4: whether an event's fields are in range, and whether they agree with each other.
-use Prim.Native.Nat.{ℕ}
 use mathlib.Core.Bool.{Bool, true, _&&_}
-use lib.Dec.{leb}
-use Rattle.settings.specs.Settings.{recordRanged, limitsOrdered}
+use Rattle.settings.specs.Settings.{isCode, recordRanged, limitsOrdered}
 use Rattle.event.specs.Setup.{setupRanged, edgeAgrees}
 use Rattle.event.specs.Sample.{sampleRanged}
 use Rattle.event.specs.declared.Event.{Event}
 use Rattle.event.specs.declared.Event.the-variants.{Sample, Run, Stop, Emergency, Recall, Cancel, ClearCode, ClearAll, ErrorReset, NoOperation, Setup, Store}
-
--- "Codes are 0 to 99"
-abbrev pub isCode : ℕ → Bool
-isCode c = leb c 99
 
 -- no field is out of range
 unfoldable pub eventRanged : Event → Bool

@@ -1,4 +1,5 @@
 pub mod Setup
 pub mod Sample
 pub mod Event
+pub mod Kind
 pub mod Reply

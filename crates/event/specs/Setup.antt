@@ -3,14 +3,15 @@ use Prim.Native.Nat.{_%_}
 use mathlib.Core.Bool.{Bool, _&&_, not}
 use lib.Dec.{leb, eqb}
 use Rattle.laws.specs.Choice.{within}
+use Rattle.device.specs.Time.{longest}
 use Rattle.event.specs.declared.Setup.{Setup}
 
--- "mode 1 or 2; edge 1 (off to on) or 2 (on to off); tc, tw, tf 0 to 9,999; ta, ts, to 1 to 9,999; masks sort, stop, need 0 to 255; sort has bit 0 clear (else 2)"
+-- "mode 1 or 2; edge 1 (off to on) or 2 (on to off); tc (settling), tw (wait), tf (foreign delay) 0 to 9,999; ta (averaging), ts (sorter wait), to (sorter on-time) 1 to 9,999; masks sort, stop, need 0 to 255 .. sort has bit 0 clear (else 2)"
 unfoldable pub setupRanged : Setup → Bool
 setupRanged s =
     within 1 2 (s .mode) && within 1 2 (s .edge)
-    && leb (s .tc) 9999 && leb (s .tw) 9999 && leb (s .tf) 9999
-    && within 1 9999 (s .ta) && within 1 9999 (s .ts) && within 1 9999 (s .to)
+    && leb (s .tc) longest && leb (s .tw) longest && leb (s .tf) longest
+    && within 1 longest (s .ta) && within 1 longest (s .ts) && within 1 longest (s .to)
     && leb (s .sort) 255 && leb (s .stop) 255 && leb (s .need) 255
     && eqb (s .sort % 2) 0
 

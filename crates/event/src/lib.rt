@@ -3,18 +3,23 @@
 ghost use mathlib.Core.Path.{_≡_};
 ghost use Rattle.event.specs.Setup.{setupRanged, edgeAgrees, setupFit};
 ghost use Rattle.event.specs.Sample.{sampleRanged};
-ghost use Rattle.event.specs.Event.{isCode, eventRanged, eventAgrees};
+ghost use Rattle.event.specs.Event.{eventRanged, eventAgrees};
+ghost use Rattle.event.specs.Kind.{kindOf};
 
 mod reply;
 
+use device::LONGEST;
 pub use reply::Done;
 pub use reply::Reply;
 use settings::Settings;
+use settings::is_code;
 use weight::is_weight;
 
-// What stopped status lets one set up: mode, edge, timers in ticks, masks.
+// What stopped status lets one set up: timers are in ticks of 10 ms, 0 or 1 to 9,999; masks are 0 to 255.
 pub struct Setup {
+    // 1 in through, 2 stop
     pub mode: u64,
+    // 1 off to on, 2 on to off
     pub edge: u64,
     pub tc: u64,
     pub tw: u64,
@@ -27,8 +32,9 @@ pub struct Setup {
     pub need: u64,
 }
 
-// What the inputs say on one tick.
+// What the inputs say on one tick: levels are 0 or 1, safety has input k as bit k - 1.
 pub struct Sample {
+    // divisions, a weight
     pub gross: i64,
     pub sensor: u64,
     pub emergency: u64,
@@ -51,24 +57,18 @@ pub enum Event {
     Store(u64, Settings),
 }
 
-pub fn is_code(code: u64) -> bool
-    ensures { λ r. ⌜ r ≡ isCode code ⌝ }
-{
-    code <= 99
-}
-
 impl Setup {
     pub fn ranged(self) -> bool
         ensures { λ r. ⌜ r ≡ setupRanged self ⌝ }
     {
         ((1 <= self.mode) & (self.mode <= 2))
             & ((1 <= self.edge) & (self.edge <= 2))
-            & (self.tc <= 9999)
-            & (self.tw <= 9999)
-            & (self.tf <= 9999)
-            & ((1 <= self.ta) & (self.ta <= 9999))
-            & ((1 <= self.ts) & (self.ts <= 9999))
-            & ((1 <= self.to) & (self.to <= 9999))
+            & (self.tc <= LONGEST)
+            & (self.tw <= LONGEST)
+            & (self.tf <= LONGEST)
+            & ((1 <= self.ta) & (self.ta <= LONGEST))
+            & ((1 <= self.ts) & (self.ts <= LONGEST))
+            & ((1 <= self.to) & (self.to <= LONGEST))
             & (self.sort <= 255)
             & (self.stop <= 255)
             & (self.need <= 255)
@@ -102,6 +102,51 @@ impl Sample {
 }
 
 impl Event {
+    // the numbers of the kinds
+    pub const SAMPLE: u64 = 0;
+
+    pub const RUN: u64 = 1;
+
+    pub const STOP: u64 = 2;
+
+    pub const EMERGENCY: u64 = 3;
+
+    pub const RECALL: u64 = 4;
+
+    pub const CANCEL: u64 = 5;
+
+    pub const CLEAR_CODE: u64 = 6;
+
+    pub const CLEAR_ALL: u64 = 7;
+
+    pub const ERROR_RESET: u64 = 8;
+
+    pub const NO_OPERATION: u64 = 9;
+
+    pub const SETUP: u64 = 10;
+
+    pub const STORE: u64 = 11;
+
+    // The number of its kind, in 01's order.
+    pub fn kind(self) -> u64
+        ensures { λ r. ⌜ r ≡ kindOf self ⌝ }
+    {
+        match self {
+            Event::Sample(_) => Event::SAMPLE,
+            Event::Run => Event::RUN,
+            Event::Stop => Event::STOP,
+            Event::Emergency => Event::EMERGENCY,
+            Event::Recall(_) => Event::RECALL,
+            Event::Cancel => Event::CANCEL,
+            Event::ClearCode(_) => Event::CLEAR_CODE,
+            Event::ClearAll => Event::CLEAR_ALL,
+            Event::ErrorReset => Event::ERROR_RESET,
+            Event::NoOperation => Event::NO_OPERATION,
+            Event::Setup(_) => Event::SETUP,
+            Event::Store(_, _) => Event::STORE,
+        }
+    }
+
     // No field is out of range.
     pub fn ranged(self) -> bool
         ensures { λ r. ⌜ r ≡ eventRanged self ⌝ }

@@ -1,6 +1,6 @@
 -- What a test that was passed tells. Assumes nothing.
 use mathlib.Core.Path.{_≡_, refl, sym, subst}
-use mathlib.Core.Bool.{Bool, true, false, _&&_}
+use mathlib.Core.Bool.{Bool, true, false, _&&_, _||_}
 use Prim.Native.Nat.{ℕ}
 use native.Mathlib.Omega.{arith}
 use lib.Dec.{T}
@@ -13,6 +13,11 @@ both false b h = absurd (subst T (sym h) tt)
 
 pub and-intro : {a b : Bool} → a ≡ true → b ≡ true → a && b ≡ true
 and-intro p q = rw (p, q)
+
+-- both sides of a failed `||`
+pub neither : (a b : Bool) → a || b ≡ false → (a ≡ false) × (b ≡ false)
+neither true b h = absurd (subst T h tt)
+neither false b h = (refl, h)
 
 -- to show a thing of a choice, show it of both sides, each with what the test said
 pub if-ind : {A : Type 0} (P : A → Type 0) (b : Bool) (x y : A) → (b ≡ true → P x) → (b ≡ false → P y) → P (if b then x else y)

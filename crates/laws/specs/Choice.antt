@@ -11,3 +11,8 @@ if_then_else_ false x y = y
 -- low to high, both included
 abbrev pub within : ℕ → ℕ → ℕ → Bool
 within low high n = leb low n && leb n high
+
+-- 1 if so, else 0
+abbrev pub bit : Bool → ℕ
+bit true = 1
+bit false = 0

@@ -6,7 +6,7 @@ use Rattle.device.specs.Sensor.{sensorFit}
 use Rattle.device.specs.Sorter.{sorterFit}
 use Rattle.device.specs.Foreign.{foreignFit}
 use Rattle.event.specs.Setup.{setupFit}
-use Rattle.event.specs.Event.{isCode}
+use Rattle.settings.specs.Settings.{isCode}
 use Rattle.line.specs.Fit.{lastFit, statusFit, itemFit, lineFit}
 use Rattle.undo.specs.Undo.{undoFit}
 use Rattle.line.specs.declared.line.Line.{Line}

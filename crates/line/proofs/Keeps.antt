@@ -13,11 +13,12 @@ use Rattle.device.specs.declared.foreign.Foreign.{Foreign}
 use Rattle.device.proofs.Keeps.{settled-fit, ticked-fit, queued-fit, off-fit, off-idle, foreign-ticked-fit}
 use Rattle.event.specs.declared.Sample.{Sample}
 use Rattle.event.proofs.Facts.{timers, InRange}
-use Rattle.line.specs.Line.{stopped, running, paused, emergency, busy, withStatus, withSorter, withForeign, withItem}
+use Rattle.status.specs.Status.{stopped, running, paused, emergency, errorKnown, errorFor}
+use Rattle.line.specs.Line.{busy, withStatus, withSorter, withForeign, withItem}
 use Rattle.event.specs.Reply.{noError}
-use Rattle.line.specs.Fit.{lastFit, errorKnown, statusFit, itemFit}
+use Rattle.line.specs.Fit.{lastFit, statusFit, itemFit}
 use Rattle.line.specs.Effect.{halted}
-use Rattle.line.specs.Verdict.{errorFor, sortedFor, stoppedFor}
+use Rattle.line.specs.Verdict.{sortedFor, stoppedFor}
 use Rattle.line.specs.Sample.{step1, step4, step5}
 use Rattle.line.specs.declared.line.Line.{Line}
 use Rattle.line.specs.declared.item.Item.{Item}

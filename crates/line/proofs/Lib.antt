@@ -5,6 +5,4 @@ pub mod Steps
 pub mod Moves
 pub mod Keeps
 pub mod Ticks
-pub mod Tallies
-pub mod Done
 pub mod Stores

@@ -7,7 +7,7 @@ use Rattle.laws.proofs.Tests.{if-ind}
 use Rattle.mask.specs.Bits.{lowestOff}
 use Rattle.event.specs.Setup.{setupFit}
 use Rattle.event.specs.declared.Sample.{Sample}
-use Rattle.line.specs.Line.{emergency}
+use Rattle.status.specs.Status.{emergency}
 use Rattle.line.specs.Fit.{itemFit}
 use Rattle.line.specs.Effect.{halted, halting}
 use Rattle.line.specs.Sample.{step1, step2, step3}

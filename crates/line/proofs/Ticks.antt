@@ -8,7 +8,7 @@ use lib.Dec.{eqb, T}
 use lib.IntN.{ℤ, pos, _-ℤ_}
 use lib.Signed.{leZ}
 use borrow.Author.Tests.{eqb-true}
-use Rattle.laws.specs.Choice.{if_then_else_}
+use Rattle.laws.specs.Choice.{if_then_else_, bit}
 use Rattle.weight.specs.Weight.{isWeight}
 use Rattle.laws.proofs.Tests.{both, if-ind}
 use Rattle.mask.specs.Bits.{marked, lowestOff}
@@ -21,10 +21,11 @@ use Rattle.device.proofs.Keeps.{used-fit}
 use Rattle.event.specs.declared.Sample.{Sample}
 use Rattle.event.proofs.Facts.{timers, InRange}
 use Rattle.tally.specs.Tally.{isGrade}
-use Rattle.line.specs.Line.{stopped, running, paused, emergency, isRunning, inHand, busy, withStatus, withForeign, withItem}
+use Rattle.status.specs.Status.{stopped, running, paused, emergency, errorKnown}
+use Rattle.line.specs.Line.{isRunning, inHand, busy, withStatus, withForeign, withItem}
 use Rattle.event.specs.Reply.{noError}
-use Rattle.line.specs.Fit.{errorKnown, itemFit}
-use Rattle.line.specs.Effect.{bit, plain, halted, halting}
+use Rattle.line.specs.Fit.{itemFit}
+use Rattle.line.specs.Effect.{plain, halted, halting}
 use Rattle.line.specs.Verdict.{sortedFor, stoppedFor, given, orCrash, verdictOf, judged}
 use Rattle.line.specs.Sample.{step1, step2, step3, step4, step5, step6, step7, afterWeighing, newItem, detecting, runningTick, guarded, fromStep3, sampled, foreignRises}
 use Rattle.line.specs.Command.{ran, stopping, alarmed}

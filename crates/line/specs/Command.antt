@@ -2,7 +2,8 @@
 use mathlib.Core.Bool.{_&&_}
 use lib.Dec.{eqb}
 use Rattle.laws.specs.Choice.{if_then_else_}
-use Rattle.line.specs.Line.{stopped, running, paused, emergency, isRunning, busy, withStatus}
+use Rattle.status.specs.Status.{stopped, running, paused, emergency, plainError}
+use Rattle.line.specs.Line.{isRunning, busy, withStatus}
 use Rattle.event.specs.Reply.{noError}
 use Rattle.line.specs.Effect.{plain, halting}
 use Rattle.line.specs.declared.line.Line.{Line}
@@ -15,7 +16,7 @@ ran l = plain (withStatus l running noError)
 -- "Stop: running and busy gives paused, error 0; running and not busy, or paused, gives stopped; stopped stays."
 unfoldable pub stopping : Line → Effect
 stopping l =
-    if isRunning l && busy l then plain (withStatus l paused 0)
+    if isRunning l && busy l then plain (withStatus l paused plainError)
     else (if eqb (l .status) stopped then plain l else halting l stopped)
 
 -- "Emergency: accepted in any status, gives status 3."

@@ -1,10 +1,9 @@
 -- What an event does to the line and to a box, before a verdict is tallied; and the reply's fields.
 use Prim.Native.Nat.{ℕ}
-use mathlib.Core.Bool.{Bool, true, false}
 use lib.IntN.{pos}
-use Rattle.laws.specs.Choice.{if_then_else_}
+use Rattle.laws.specs.Choice.{if_then_else_, bit}
 use Rattle.device.specs.Sorter.{sorterOff}
-use Rattle.line.specs.Line.{inHand, busy, conveyor, sorterOn}
+use Rattle.line.specs.Line.{inHand, busy, conveyor, sorterOn, withStatus, withSorter, withItem}
 use Rattle.event.specs.Reply.{noError}
 use Rattle.line.specs.declared.item.Item.the-variants.{None}
 use Rattle.line.specs.declared.line.Line.{Line}
@@ -22,27 +21,11 @@ dismissed l = record { line = l; detected = 0; outcome = 9; net = pos 0 }
 
 -- "Entering status 0 or 3 abandons an item in hand, empties the queue, puts the sorter off and the error to none. A foreign signal is kept."
 unfoldable pub halted : Line → ℕ → Line
-halted l s =
-    record {
-      status = s;
-      error = noError;
-      code = l .code;
-      setup = l .setup;
-      sensor = l .sensor;
-      last = l .last;
-      foreign = l .foreign;
-      item = None;
-      sorter = sorterOff;
-      undo = l .undo;
-    }
+halted l s = withItem (withSorter (withStatus l s noError) sorterOff) None
 
 unfoldable pub halting : Line → ℕ → Effect
 halting l s =
     record { line = halted l s; detected = 0; outcome = if inHand (l .item) then 10 else 0; net = pos 0 }
-
-abbrev pub bit : Bool → ℕ
-bit true = 1
-bit false = 0
 
 -- "Status, busy, conveyor, sorter and error are those after the event. Detected and tallied are 1 if this event did so."
 unfoldable pub replied : Effect → ℕ → Reply

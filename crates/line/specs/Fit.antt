@@ -4,15 +4,16 @@ use mathlib.Core.Bool.{Bool, true, _&&_, _||_, not}
 use lib.Dec.{eqb, leb}
 use lib.IntN.{natAbs}
 use Rattle.laws.specs.Choice.{within}
-use Rattle.weight.specs.Weight.{isWeight}
+use Rattle.weight.specs.Weight.{largestWeight, isWeight}
 use Rattle.device.specs.Sensor.{sensorFit}
 use Rattle.device.specs.Sorter.{sorterFit}
 use Rattle.device.specs.Foreign.{foreignFit}
 use Rattle.event.specs.Setup.{setupFit}
-use Rattle.event.specs.Event.{isCode}
+use Rattle.settings.specs.Settings.{isCode}
 use Rattle.event.specs.declared.Setup.{Setup}
 use Rattle.undo.specs.Undo.{undoFit}
-use Rattle.line.specs.Line.{stopped, paused, emergency, busy}
+use Rattle.status.specs.Status.{stopped, paused, emergency, errorKnown}
+use Rattle.line.specs.Line.{busy}
 use Rattle.event.specs.Reply.{noError}
 use Rattle.line.specs.declared.item.Item.{Item}
 use Rattle.line.specs.declared.item.Item.the-variants.{None, Waiting, Averaging}
@@ -23,15 +24,11 @@ use Rattle.line.specs.declared.line.Line.{Line}
 unfoldable pub lastFit : Last → Bool
 lastFit k = isWeight (k .gross) && leb (k .safety) 255 && leb (k .foreign) 1
 
--- "error known here": none, 0, 1, 2, 5 or 6
-unfoldable pub errorKnown : ℕ → Bool
-errorKnown e = eqb e noError || leb e 2 || eqb e 5 || eqb e 6
-
 -- "an item's ticks left from 1 to its tw or ta, |sum| ≤ 999,999 × ticks averaged"
 unfoldable pub itemFit : Item → Setup → Bool
 itemFit None s = true
 itemFit (Waiting k) s = within 1 (s .tw) k
-itemFit (Averaging k sum) s = within 1 (s .ta) k && leb (natAbs sum) (999999 * (s .ta - k))
+itemFit (Averaging k sum) s = within 1 (s .ta) k && leb (natAbs sum) (largestWeight * (s .ta - k))
 
 -- "error none unless paused, and in status 0 or 3 nothing in hand, queued or on"
 unfoldable pub statusFit : Line → Bool

@@ -1,10 +1,11 @@
 pub mod Line
+pub mod State
 pub mod Fit
 pub mod Effect
 pub mod Verdict
 pub mod Sample
 pub mod Command
+pub mod Storing
 pub mod Tallying
 pub mod Refusal
 pub mod Step
-pub mod Storing

@@ -3,6 +3,7 @@ use Prim.Native.Nat.{ℕ}
 use mathlib.Core.Bool.{Bool, true, false, _&&_, _||_, not}
 use lib.Dec.{eqb, ltb}
 use lib.IntN.{pos}
+use Rattle.status.specs.Status.{stopped, running}
 use Rattle.device.specs.Sorter.{sorting, sorterOff}
 use Rattle.device.specs.Foreign.{noSignal}
 use Rattle.device.specs.declared.sensor.Sensor.{Sensor}
@@ -13,22 +14,9 @@ use Rattle.event.specs.declared.Setup.{Setup}
 use Rattle.line.specs.declared.item.Item.{Item}
 use Rattle.line.specs.declared.item.Item.the-variants.{None, Waiting, Averaging}
 use Rattle.undo.specs.declared.Undo.{Undo}
-use Rattle.undo.specs.declared.Undo.the-variants.{Nothing}
+use Rattle.undo.specs.Undo.{nothing}
 use Rattle.line.specs.declared.line.Last.{Last}
 use Rattle.line.specs.declared.line.Line.{Line}
-
--- "Status: 0 stopped, 1 running, 2 paused, 3 emergency"
-abbrev pub stopped : ℕ
-stopped = 0
-
-abbrev pub running : ℕ
-running = 1
-
-abbrev pub paused : ℕ
-paused = 2
-
-abbrev pub emergency : ℕ
-emergency = 3
 
 abbrev pub isRunning : Line → Bool
 isRunning l = eqb (l .status) running
@@ -70,7 +58,7 @@ freshLine =
       foreign = noSignal;
       item = None;
       sorter = sorterOff;
-      undo = Nothing;
+      undo = nothing;
     }
 
 -- ---- the line with a part anew

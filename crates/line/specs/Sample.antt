@@ -12,7 +12,8 @@ use Rattle.device.specs.Sorter.{sorterTicked}
 use Rattle.device.specs.Foreign.{foreignTicked}
 use Rattle.event.specs.declared.Setup.{Setup}
 use Rattle.event.specs.declared.Sample.{Sample}
-use Rattle.line.specs.Line.{stopped, paused, emergency, isRunning, inHand, withStatus, withSensed, withForeign, withItem, withSorter}
+use Rattle.status.specs.Status.{stopped, paused, emergency, unsafeError}
+use Rattle.line.specs.Line.{isRunning, inHand, withStatus, withSensed, withForeign, withItem, withSorter}
 use Rattle.line.specs.Effect.{plain, halting}
 use Rattle.line.specs.Verdict.{given, judged}
 use Rattle.line.specs.declared.item.Item.{Item}
@@ -45,7 +46,7 @@ step2 l level =
 
 -- 3. "If a bit set in need is 0 in safety: paused, error 1"
 unfoldable pub step3 : Line → Line
-step3 l = if eqb (lowestOff (l .setup .need) (l .last .safety)) 0 then l else withStatus l paused 1
+step3 l = if eqb (lowestOff (l .setup .need) (l .last .safety)) 0 then l else withStatus l paused unsafeError
 
 -- 4. the sorter's on-time and waits
 unfoldable pub step4 : Line → Line

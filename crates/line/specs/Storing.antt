@@ -1,32 +1,21 @@
--- "Store replaces one code's settings": which record `Line::apply` writes after an event, if any.
+-- "Store (not while running) replaces one code's settings".
 use Prim.Native.Nat.{ℕ}
+use mathlib.Core.List.{List}
+use lib.ListN.{set}
 use Rattle.settings.specs.declared.Settings.{Settings}
-use Rattle.event.specs.declared.Event.{Event}
-use Rattle.event.specs.declared.Event.the-variants.{Sample, Run, Stop, Emergency, Recall, Cancel, ClearCode, ClearAll, ErrorReset, NoOperation, Setup, Store}
-use Rattle.event.specs.declared.reply.Reply.{Reply}
-use Rattle.event.specs.declared.reply.Reply.the-variants.{Refused, Done}
 use Rattle.line.specs.declared.storing.Storing.{Storing}
+use Rattle.line.specs.declared.storing.Storing.the-variants.{Nothing, Record}
 
--- at the count, past the end, nothing is stored
-abbrev pub storesNone : ℕ → Settings → Storing
-storesNone count a = record { code = count; settings = a }
+-- the settings records after an event that stores this
+abbrev pub stored : List Settings → Storing → List Settings
+stored ss Nothing = ss
+stored ss (Record c s) = set ss c s
 
--- which code's record an accepted event replaces, and by which, where count records are lent and a is the active one
-unfoldable pub stores : ℕ → Settings → Event → Storing
-stores count a (Sample s) = storesNone count a
-stores count a Run = storesNone count a
-stores count a Stop = storesNone count a
-stores count a Emergency = storesNone count a
-stores count a (Recall c) = storesNone count a
-stores count a Cancel = storesNone count a
-stores count a (ClearCode c) = storesNone count a
-stores count a ClearAll = storesNone count a
-stores count a ErrorReset = storesNone count a
-stores count a NoOperation = storesNone count a
-stores count a (Setup s) = storesNone count a
-stores count a (Store c s) = record { code = c; settings = s }
+-- the same as one write to the records, of which there are count: past the end it changes nothing
+unfoldable pub placeOf : Storing → ℕ → ℕ
+placeOf Nothing count = count
+placeOf (Record c s) count = c
 
--- told from the event and its reply
-unfoldable pub storingFor : ℕ → Settings → Event → Reply → Storing
-storingFor count a e (Refused number input) = storesNone count a
-storingFor count a e (Done d) = stores count a e
+unfoldable pub recordOf : Storing → Settings → Settings
+recordOf Nothing any = any
+recordOf (Record c s) any = s

@@ -3,68 +3,64 @@ use Prim.Native.Nat.{ℕ}
 use mathlib.Core.List.{List}
 use lib.Dec.{eqb}
 use lib.IntN.{ℤ}
+use lib.ListN.{length}
 use Rattle.laws.specs.Choice.{if_then_else_}
-use Rattle.tally.specs.Tally.{emptyTally, isVerdict, hasRoom, added}
-use Rattle.tallies.specs.Memory.{tallyAt, withTally, zeros, talliesLength}
-use Rattle.tally.specs.declared.tally.Tally.{Tally}
+use Rattle.tally.specs.Tally.{emptyTally, isVerdict}
+use Rattle.tallies.specs.Memory.{written, zeros}
+use Rattle.event.specs.declared.reply.Reply.{Reply}
+use Rattle.undo.specs.Undo.{nothing, keptOf, notedIn, putBack}
 use Rattle.line.specs.Line.{withCode, withUndo}
 use Rattle.line.specs.Effect.{plain, replied}
-use Rattle.undo.specs.Undo.{restored}
-use Rattle.undo.specs.declared.Undo.the-variants.{Nothing, Kept}
 use Rattle.line.specs.declared.line.Line.{Line}
 use Rattle.line.specs.declared.effect.Effect.{Effect}
-use Rattle.event.specs.declared.reply.Reply.{Reply}
 use Rattle.line.specs.declared.step.Step.{Step}
+use Rattle.line.specs.declared.storing.Storing.{Storing}
+use Rattle.line.specs.declared.storing.Storing.the-variants.{Nothing}
 
--- what an event hands back: the next line, the tallies and the reply
+-- what an event hands back: the next line, what it stores, the tallies and the reply
 pub record Out : Type 0 where
   pub line : Line
+  pub storing : Storing
   pub tallies : List ℤ
   pub reply : Reply
 
--- the next line and the reply alone
+-- all but the tallies, which are lent
 abbrev pub stepIn : Out → Step
-stepIn o = record { line = o .line; reply = o .reply }
+stepIn o = record { line = o .line; reply = o .reply; storing = o .storing }
 
--- an effect that tallies nothing
+-- an effect that stores and tallies nothing
 abbrev pub untallied : Effect → List ℤ → Out
-untallied e ts = record { line = e .line; tallies = ts; reply = replied e 0 }
+untallied e ts = record { line = e .line; storing = Nothing; tallies = ts; reply = replied e 0 }
 
--- a verdict is tallied under the active code, and the tally as before it is kept
-abbrev pub tallied : Effect → List ℤ → Tally → Out
-tallied e ts t =
+-- a verdict is tallied under the active code, and the tally as before it is kept; where it is given but not tallied, there is nothing to cancel
+unfoldable pub noted : Effect → List ℤ → Out
+noted e ts =
+    let u = keptOf ts (e .line .code) (e .outcome) (e .net) in
     record {
-      line = withUndo (e .line) (Kept t);
-      tallies = withTally ts (e .line .code) (added t (e .outcome) (e .net));
-      reply = replied e 1;
+      line = withUndo (e .line) u;
+      storing = Nothing;
+      tallies = notedIn ts (e .line .code) (e .outcome) (e .net);
+      reply = replied e (u .chance);
     }
-
--- "At 999,999 verdicts a further one is given but not tallied", and then nothing is there to cancel
-abbrev pub passedOver : Effect → List ℤ → Out
-passedOver e ts = record { line = withUndo (e .line) Nothing; tallies = ts; reply = replied e 0 }
-
-unfoldable pub noted : Effect → List ℤ → Tally → Out
-noted e ts t = if hasRoom t then tallied e ts t else passedOver e ts
 
 -- "Active code and settings are those at the verdict."
 unfoldable pub recorded : Effect → List ℤ → Out
-recorded e ts =
-    if isVerdict (e .outcome) then noted e ts (tallyAt ts (e .line .code)) else untallied e ts
+recorded e ts = if isVerdict (e .outcome) then noted e ts else untallied e ts
 
 -- "Cancel puts back the active code's tally as before the last verdict."
 abbrev pub cancelled : Line → List ℤ → Out
-cancelled l ts = untallied (plain (withUndo l Nothing)) (restored ts (l .code) (l .undo))
+cancelled l ts = untallied (plain (withUndo l nothing)) (putBack ts (l .code) (l .undo))
 
 -- "Recall makes a code active, any status, and ends the chance to cancel, even for the same code."
 abbrev pub recalled : Line → ℕ → Line
-recalled l c = withCode (withUndo l Nothing) c
+recalled l c = withCode (withUndo l nothing) c
 
 -- "Clear zeroes tallies": of one code, and "clear of that code .. since" the verdict ends the chance
 unfoldable pub codeCleared : Line → ℕ → Line
-codeCleared l c = if eqb c (l .code) then withUndo l Nothing else l
+codeCleared l c = if eqb c (l .code) then withUndo l nothing else l
 
 abbrev pub clearedOne : Line → List ℤ → ℕ → Out
-clearedOne l ts c = untallied (plain (codeCleared l c)) (withTally ts c emptyTally)
+clearedOne l ts c = untallied (plain (codeCleared l c)) (written ts c emptyTally)
 
-abbrev pub clearedAll : Line → Out
-clearedAll l = untallied (plain (withUndo l Nothing)) (zeros talliesLength)
+abbrev pub clearedAll : Line → List ℤ → Out
+clearedAll l ts = untallied (plain (withUndo l nothing)) (zeros (length ts))

@@ -12,7 +12,8 @@ use Rattle.settings.specs.declared.Settings.{Settings}
 use Rattle.device.specs.Sorter.{full, queued}
 use Rattle.device.specs.Foreign.{due, flagUsed}
 use Rattle.tally.specs.Tally.{isGrade}
-use Rattle.line.specs.Line.{paused, withStatus, withForeign, withSorter}
+use Rattle.status.specs.Status.{errorFor, paused}
+use Rattle.line.specs.Line.{withStatus, withForeign, withSorter}
 use Rattle.line.specs.Effect.{dismissed}
 use Rattle.line.specs.declared.line.Line.{Line}
 use Rattle.line.specs.declared.effect.Effect.{Effect}
@@ -20,10 +21,6 @@ use Rattle.line.specs.declared.effect.Effect.{Effect}
 -- "A verdict with its sort bit is queued with wait ts if fewer than 8 wait."
 unfoldable pub sortedFor : Line → ℕ → Line
 sortedFor l v = if marked (l .setup .sort) v then withSorter l (queued (l .sorter) (l .setup .ts)) else l
-
--- "error 2 for two-on, 5 foreign, 6 crash, 0 a grade"
-unfoldable pub errorFor : ℕ → ℕ
-errorFor v = if eqb v 7 then 2 else (if eqb v 6 then 5 else (if eqb v 8 then 6 else 0))
 
 -- "With its stop bit the line pauses"
 unfoldable pub stoppedFor : Line → ℕ → Line

@@ -2,25 +2,22 @@
 ghost use mathlib.Core.Path.{_≡_};
 ghost use mathlib.Core.Bool.{true};
 ghost use mathlib.Core.List.{[]};
-ghost use lib.ListN.{length};
 ghost use Rattle.settings.specs.Settings.{recordFit};
 ghost use Rattle.event.specs.Sample.{sampleRanged};
-ghost use Rattle.event.specs.Event.{isCode};
-ghost use Rattle.tallies.specs.Memory.{talliesLength, tallyAtFit};
-ghost use Rattle.line.specs.Line.{withStatus, withSetup};
 ghost use Rattle.event.specs.Reply.{noError};
-ghost use Rattle.undo.specs.Undo.{undoFit};
+ghost use Rattle.line.specs.Line.{withStatus, withSetup};
 ghost use Rattle.line.specs.Fit.{lineFit};
 ghost use Rattle.line.specs.Effect.{plain};
 ghost use Rattle.line.specs.Sample.{sampled};
 ghost use Rattle.line.specs.Command.{ran, stopping, alarmed};
 ghost use Rattle.line.specs.Tallying.{stepIn, untallied, recorded, cancelled, recalled, codeCleared, clearedOne, clearedAll};
 ghost use Rattle.line.specs.Refusal.{refusalOf};
-ghost use Rattle.line.specs.Step.{accepted, stepOf, stepOn, settingsAfter};
+ghost use Rattle.line.specs.State.{state};
+ghost use Rattle.line.specs.Step.{storing, accepted, stepOf, outOn, stepOn};
 use crate::effect::Effect;
 use crate::line::Line;
 use crate::step::Step;
-use crate::storing::storing_for;
+use crate::storing::Storing;
 use event::Event;
 use event::Reply;
 use event::Sample;
@@ -52,7 +49,7 @@ impl Line {
     fn recall(self, code: u64) -> Step
         ensures { λ r. ⌜ r ≡ stepIn (untallied (plain (recalled self code)) []) ⌝ }
     {
-        Effect::plain(self.with_undo(Undo::Nothing).with_code(code)).untallied()
+        Effect::plain(self.with_undo(Undo::nothing()).with_code(code)).untallied()
     }
 
     fn error_reset(self) -> Step
@@ -73,18 +70,23 @@ impl Line {
         Effect::plain(self.with_setup(setup)).untallied()
     }
 
-    // `apply` stores the record.
-    fn store(self) -> Step
-        ensures { λ r. ⌜ r ≡ stepIn (untallied (plain self) []) ⌝ }
+    // The line stays; code's settings are to be replaced.
+    fn store(self, code: u64, settings: Settings) -> Step
+        ensures { λ r. ⌜ r ≡ stepIn (storing self [] code settings) ⌝ }
     {
-        Effect::plain(self).untallied()
+        let reply = Effect::plain(self).replied(0);
+        Step {
+            line: self,
+            reply: reply,
+            storing: Storing::Record(code, settings),
+        }
     }
 }
 
 // What changes tallies.
 impl Line {
     fn sample(self, active: Settings, tallies: &mut [i64], s: Sample) -> Step
-        requires { ⌜ (lineFit self ≡ true) × (recordFit active ≡ true) × (sampleRanged s ≡ true) × (length (now tallies) ≡ talliesLength) × (tallyAtFit (now tallies) (self .code) ≡ true) ⌝ }
+        requires { ⌜ (lineFit self ≡ true) × (recordFit active ≡ true) × (sampleRanged s ≡ true) ⌝ }
         ensures answer { λ r. ⌜ r ≡ stepIn (recorded (sampled self active s) (now (tallies .entry))) ⌝ }
         ensures memory { λ r. ⌜ now (tallies .exit) ≡ recorded (sampled self active s) (now (tallies .entry)) .tallies ⌝ }
     {
@@ -92,13 +94,12 @@ impl Line {
     }
 
     fn cancel(self, tallies: &mut [i64]) -> Step
-        requires { ⌜ (isCode (self .code) ≡ true) × (undoFit (self .undo) ≡ true) × (length (now tallies) ≡ talliesLength) ⌝ }
         ensures answer { λ r. ⌜ r ≡ stepIn (cancelled self (now (tallies .entry))) ⌝ }
         ensures memory { λ r. ⌜ now (tallies .exit) ≡ cancelled self (now (tallies .entry)) .tallies ⌝ }
     {
         let undo = self.undo;
         undo.put_back(tallies, self.code);
-        Effect::plain(self.with_undo(Undo::Nothing)).untallied()
+        Effect::plain(self.with_undo(Undo::nothing())).untallied()
     }
 
     // Clearing the active code ends the chance to cancel.
@@ -106,13 +107,12 @@ impl Line {
         ensures { λ r. ⌜ r ≡ codeCleared self code ⌝ }
     {
         if code == self.code {
-            return self.with_undo(Undo::Nothing);
+            return self.with_undo(Undo::nothing());
         }
         self
     }
 
     fn clear_code(self, tallies: &mut [i64], code: u64) -> Step
-        requires { ⌜ (isCode code ≡ true) × (length (now tallies) ≡ talliesLength) ⌝ }
         ensures answer { λ r. ⌜ r ≡ stepIn (clearedOne self (now (tallies .entry)) code) ⌝ }
         ensures memory { λ r. ⌜ now (tallies .exit) ≡ clearedOne self (now (tallies .entry)) code .tallies ⌝ }
     {
@@ -121,12 +121,11 @@ impl Line {
     }
 
     fn clear_all(self, tallies: &mut [i64]) -> Step
-        requires { ⌜ length (now tallies) ≡ talliesLength ⌝ }
-        ensures answer { λ r. ⌜ r ≡ stepIn (clearedAll self) ⌝ }
-        ensures memory { λ r. ⌜ now (tallies .exit) ≡ clearedAll self .tallies ⌝ }
+        ensures answer { λ r. ⌜ r ≡ stepIn (clearedAll self (now (tallies .entry))) ⌝ }
+        ensures memory { λ r. ⌜ now (tallies .exit) ≡ clearedAll self (now (tallies .entry)) .tallies ⌝ }
     {
         tallies::clear(tallies);
-        Effect::plain(self.with_undo(Undo::Nothing)).untallied()
+        Effect::plain(self.with_undo(Undo::nothing())).untallied()
     }
 }
 
@@ -148,7 +147,7 @@ impl Line {
             Event::ErrorReset => self.error_reset(),
             Event::NoOperation => self.no_operation(),
             Event::Setup(s) => self.set_up(s),
-            Event::Store(_, _) => self.store(),
+            Event::Store(c, s) => self.store(c, s),
         }
     }
 
@@ -167,6 +166,7 @@ impl Line {
             return Step {
                 line: self,
                 reply: reply,
+                storing: Storing::Nothing,
             };
         }
         self.accepted(count, active, tallies, e)
@@ -175,15 +175,17 @@ impl Line {
     // An event on the line and both lent memories, the settings records and the tallies. Of the records an event reads
     // the active code's, and a store replaces one.
     pub fn apply(self, records: &mut [Settings], tallies: &mut [i64], e: Event) -> Step
-        ensures answer { λ r. ⌜ r ≡ stepIn (stepOn self (now (records .entry)) (now (tallies .entry)) e) ⌝ }
-        ensures settings { λ r. ⌜ now (records .exit) ≡ settingsAfter self (now (records .entry)) (now (tallies .entry)) e ⌝ }
-        ensures memory { λ r. ⌜ now (tallies .exit) ≡ stepOn self (now (records .entry)) (now (tallies .entry)) e .tallies ⌝ }
+        ensures answer { λ r. ⌜ r ≡ stepIn (outOn (state self (now (records .entry)) (now (tallies .entry))) e) ⌝ }
+        ensures settings { λ r. ⌜ now (records .exit) ≡ stepOn (state self (now (records .entry)) (now (tallies .entry))) e .state .settings ⌝ }
+        ensures memory { λ r. ⌜ now (tallies .exit) ≡ stepOn (state self (now (records .entry)) (now (tallies .entry))) e .state .tallies ⌝ }
     {
         let count = records.len() as u64;
-        let active = records::read(records, self.code);
+        let code = self.active_code();
+        let active = records::read(records, code);
         let step = self.step(count, active, tallies, e);
-        let storing = storing_for(step, count, active, e);
-        records::write(records, storing.code, storing.settings);
+        let place = step.place(count);
+        let record = step.record(active);
+        records::write(records, place, record);
         step
     }
 }

@@ -15,7 +15,7 @@ impl Line {
         ensures { λ r. ⌜ r ≡ stopping self ⌝ }
     {
         if (self.status == Line::RUNNING) & self.busy() {
-            return Effect::plain(self.with_status(Line::PAUSED, 0));
+            return Effect::plain(self.with_status(Line::PAUSED, status::PLAIN));
         }
         if self.status == Line::STOPPED {
             return Effect::plain(self);

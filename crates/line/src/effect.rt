@@ -1,6 +1,7 @@
 // What an event does to the line and to a box, before a verdict is tallied.
 ghost use mathlib.Core.Path.{_≡_};
-ghost use Rattle.line.specs.Effect.{plain, dismissed, halted, halting, bit, replied};
+ghost use Rattle.laws.specs.Choice.{bit};
+ghost use Rattle.line.specs.Effect.{plain, dismissed, halted, halting, replied};
 use crate::item::Item;
 use crate::line::Line;
 use device::Sorter;
@@ -14,7 +15,7 @@ pub struct Effect {
     pub net: i64,
 }
 
-pub(crate) fn bit(b: bool) -> u64
+fn bit(b: bool) -> u64
     ensures { λ r. ⌜ r ≡ bit b ⌝ }
 {
     if b {

@@ -1,16 +1,11 @@
 // Whether a line is fit: tested before every event, so that no caller is trusted.
 ghost use mathlib.Core.Path.{_≡_};
-ghost use Rattle.line.specs.Fit.{lastFit, errorKnown, statusFit, lineFit};
+ghost use Rattle.line.specs.Fit.{lastFit, statusFit, lineFit};
 use crate::line::Last;
 use crate::line::Line;
-use event::is_code;
+use settings::is_code;
+use status::error_known;
 use weight::is_weight;
-
-fn error_known(error: u64) -> bool
-    ensures { λ r. ⌜ r ≡ errorKnown error ⌝ }
-{
-    (error == Line::NO_ERROR) | (error <= 2) | (error == 5) | (error == 6)
-}
 
 impl Last {
     fn fit(self) -> bool

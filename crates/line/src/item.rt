@@ -8,6 +8,7 @@ ghost use Rattle.line.specs.Fit.{itemFit};
 ghost use Rattle.line.specs.Sample.{weighed, newItem};
 use event::Setup;
 use weight::Figure;
+use weight::LARGEST;
 use weight::mean_of;
 use weight::size;
 
@@ -57,7 +58,7 @@ impl Item {
                 if !((1 <= k) & (k <= setup.ta)) {
                     return false;
                 }
-                size(sum) <= 999999 * (setup.ta - k)
+                size(sum) <= LARGEST * (setup.ta - k)
             }
         }
     }

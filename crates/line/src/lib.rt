@@ -18,3 +18,4 @@ pub use item::Weighed;
 pub use line::Last;
 pub use line::Line;
 pub use step::Step;
+pub use storing::Storing;

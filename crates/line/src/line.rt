@@ -8,6 +8,7 @@ use device::Sensor;
 use device::Sorter;
 use event::Done;
 use event::Setup;
+use tally::Tally;
 use undo::Undo;
 
 // What the last sample said.
@@ -31,18 +32,19 @@ pub struct Line {
 }
 
 impl Line {
-    pub const STOPPED: u64 = 0;
+    pub const STOPPED: u64 = status::STOPPED;
 
-    pub const RUNNING: u64 = 1;
+    pub const RUNNING: u64 = status::RUNNING;
 
-    pub const PAUSED: u64 = 2;
+    pub const PAUSED: u64 = status::PAUSED;
 
-    pub const EMERGENCY: u64 = 3;
+    pub const EMERGENCY: u64 = status::EMERGENCY;
+
     // error none
     pub const NO_ERROR: u64 = Done::NO_ERROR;
 
     // verdicts that a code's tally takes, and waits that the queue takes
-    pub const TALLY_LIMIT: u64 = 999_999;
+    pub const TALLY_LIMIT: u64 = Tally::LIMIT;
 
     pub const QUEUE_LIMIT: u64 = Queue::PLACES;
 
@@ -94,8 +96,15 @@ impl Line {
             foreign: Foreign::none(),
             item: Item::None,
             sorter: Sorter::off(),
-            undo: Undo::Nothing,
+            undo: Undo::nothing(),
         }
+    }
+
+    // The walk of `apply` passes the line whole: to take a struct apart in it is dear.
+    pub(crate) fn active_code(self) -> u64
+        ensures { λ r. ⌜ r ≡ self .code ⌝ }
+    {
+        self.code
     }
 
     // An item is in hand, the queue isn't empty, or the sorter is on.
@@ -168,25 +177,12 @@ impl Line {
     pub(crate) fn with_item(self, item: Item) -> Line
         ensures { λ r. ⌜ r ≡ withItem self item ⌝ }
     {
-        let undo = self.undo;
-        self.with_item_and_undo(item, undo)
-    }
-
-    pub(crate) fn with_undo(self, undo: Undo) -> Line
-        ensures { λ r. ⌜ r ≡ withUndo self undo ⌝ }
-    {
-        let item = self.item;
-        self.with_item_and_undo(item, undo)
-    }
-
-    fn with_item_and_undo(self, item: Item, undo: Undo) -> Line
-        ensures { λ r. ⌜ r ≡ withUndo (withItem self item) undo ⌝ }
-    {
         let setup = self.setup;
         let sensor = self.sensor;
         let last = self.last;
         let foreign = self.foreign;
         let sorter = self.sorter;
+        let undo = self.undo;
         Line {
             status: self.status,
             error: self.error,
@@ -199,5 +195,12 @@ impl Line {
             sorter: sorter,
             undo: undo,
         }
+    }
+
+    pub(crate) fn with_undo(mut self, undo: Undo) -> Line
+        ensures { λ r. ⌜ r ≡ withUndo self undo ⌝ }
+    {
+        self.undo = undo;
+        self
     }
 }

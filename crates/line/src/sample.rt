@@ -134,7 +134,7 @@ impl Line {
             return Effect::plain(next);
         }
         if mask::lowest_off(next.setup.need, next.last.safety) != 0 {
-            return Effect::plain(next.with_status(Line::PAUSED, 1));
+            return Effect::plain(next.with_status(Line::PAUSED, status::UNSAFE));
         }
         next.running_tick(active, s.gross, rises, made)
     }

@@ -1,46 +1,34 @@
 // Which settings record an event replaces.
 ghost use mathlib.Core.Path.{_≡_};
-ghost use Rattle.line.specs.Storing.{stores, storingFor};
+ghost use Rattle.line.specs.Storing.{placeOf, recordOf};
 use crate::step::Step;
-use event::Event;
-use event::Reply;
 use settings::Settings;
 
-// The record of `code` becomes `settings`; a code past the end stands for none.
-pub(crate) struct Storing {
-    pub(crate) code: u64,
-    pub(crate) settings: Settings,
+// Nothing, or a code, 0 to 99, and its record.
+pub enum Storing {
+    Nothing,
+    Record(u64, Settings),
 }
 
-// Of `count` lent records an accepted event replaces a store's, else none.
-fn stores(count: u64, active: Settings, e: Event) -> Storing
-    ensures { λ r. ⌜ r ≡ stores count active e ⌝ }
-{
-    let Event::Store(code, settings) = e else {
-        return Storing {
-            code: count,
-            settings: active,
-        };
-    };
-    Storing {
-        code: code,
-        settings: settings,
+// `apply` stores by one write to the records: where there is nothing to store it goes past the end, with any record.
+impl Step {
+    pub(crate) fn place(self, count: u64) -> u64
+        ensures { λ r. ⌜ r ≡ placeOf (self .storing) count ⌝ }
+    {
+        let storing = self.storing;
+        match storing {
+            Storing::Nothing => count,
+            Storing::Record(code, _) => code,
+        }
     }
-}
 
-// A refused event replaces none.
-pub(crate) fn storing_for(step: Step, count: u64, active: Settings, e: Event) -> Storing
-    ensures { λ r. ⌜ r ≡ storingFor count active e (step .reply) ⌝ }
-{
-    let reply = step.reply;
-    match reply {
-        Reply::Refused {
-            number: _,
-            input: _,
-        } => Storing {
-            code: count,
-            settings: active,
-        },
-        Reply::Done(_) => stores(count, active, e),
+    pub(crate) fn record(self, any: Settings) -> Settings
+        ensures { λ r. ⌜ r ≡ recordOf (self .storing) any ⌝ }
+    {
+        let storing = self.storing;
+        match storing {
+            Storing::Nothing => any,
+            Storing::Record(_, settings) => settings,
+        }
     }
 }

@@ -1,19 +1,13 @@
 // How a verdict changes the tallies and the chance to cancel.
 ghost use mathlib.Core.Path.{_≡_};
-ghost use mathlib.Core.Bool.{true};
 ghost use mathlib.Core.List.{[]};
-ghost use lib.ListN.{length};
-ghost use Rattle.weight.specs.Weight.{isWeight};
-ghost use Rattle.event.specs.Event.{isCode};
-ghost use Rattle.tally.specs.Tally.{isVerdict};
-ghost use Rattle.tallies.specs.Memory.{talliesLength, tallyAt, tallyAtFit};
 ghost use Rattle.line.specs.Tallying.{stepIn, untallied, noted, recorded};
 use crate::effect::Effect;
-use crate::effect::bit;
 use crate::step::Step;
+use crate::storing::Storing;
 
 impl Effect {
-    // The next line with a reply that tallies nothing.
+    // The next line with a reply that stores and tallies nothing.
     pub(crate) fn untallied(self) -> Step
         ensures { λ r. ⌜ r ≡ stepIn (untallied self []) ⌝ }
     {
@@ -22,28 +16,28 @@ impl Effect {
         Step {
             line: line,
             reply: reply,
+            storing: Storing::Nothing,
         }
     }
 
     // A verdict is tallied under the active code, which keeps the tally as before it; a full tally leaves nothing to cancel.
     fn noted(self, tallies: &mut [i64]) -> Step
-        requires { ⌜ (isCode (self .line .code) ≡ true) × (length (now tallies) ≡ talliesLength) × (tallyAtFit (now tallies) (self .line .code) ≡ true) × (isWeight (self .net) ≡ true) × (isVerdict (self .outcome) ≡ true) ⌝ }
-        ensures answer { λ r. ⌜ r ≡ stepIn (noted self (now (tallies .entry)) (tallyAt (now (tallies .entry)) (self .line .code))) ⌝ }
-        ensures memory { λ r. ⌜ now (tallies .exit) ≡ noted self (now (tallies .entry)) (tallyAt (now (tallies .entry)) (self .line .code)) .tallies ⌝ }
+        ensures answer { λ r. ⌜ r ≡ stepIn (noted self (now (tallies .entry))) ⌝ }
+        ensures memory { λ r. ⌜ now (tallies .exit) ≡ noted self (now (tallies .entry)) .tallies ⌝ }
     {
         let line = self.line;
         let undo = undo::note(tallies, line.code, self.outcome, self.net);
         let next = line.with_undo(undo);
-        let reply = self.replied(bit(!undo.is_nothing()));
+        let reply = self.replied(undo.chance);
         Step {
             line: next,
             reply: reply,
+            storing: Storing::Nothing,
         }
     }
 
     // The verdict of this effect, if there is one, is noted.
     pub(crate) fn recorded(self, tallies: &mut [i64]) -> Step
-        requires { ⌜ (isCode (self .line .code) ≡ true) × (length (now tallies) ≡ talliesLength) × (tallyAtFit (now tallies) (self .line .code) ≡ true) × (isWeight (self .net) ≡ true) ⌝ }
         ensures answer { λ r. ⌜ r ≡ stepIn (recorded self (now (tallies .entry))) ⌝ }
         ensures memory { λ r. ⌜ now (tallies .exit) ≡ recorded self (now (tallies .entry)) .tallies ⌝ }
     {

@@ -3,25 +3,12 @@ ghost use mathlib.Core.Path.{_≡_};
 ghost use mathlib.Core.Bool.{true};
 ghost use Rattle.weight.specs.Weight.{isWeight};
 ghost use Rattle.settings.specs.Settings.{recordFit};
-ghost use Rattle.line.specs.Verdict.{sortedFor, errorFor, stoppedFor, given, orCrash, verdictOf, judged};
+ghost use Rattle.status.specs.Status.{errorFor};
+ghost use Rattle.line.specs.Verdict.{sortedFor, stoppedFor, given, orCrash, verdictOf, judged};
 use crate::effect::Effect;
 use crate::line::Line;
 use settings::Settings;
-
-fn error_for(verdict: u64) -> u64
-    ensures { λ r. ⌜ r ≡ errorFor verdict ⌝ }
-{
-    if verdict == 7 {
-        return 2;
-    }
-    if verdict == 6 {
-        return 5;
-    }
-    if verdict == 8 {
-        return 6;
-    }
-    0
-}
+use status::error_for;
 
 impl Line {
     // With its sort bit a verdict is queued, if fewer than eight wait.

@@ -53,10 +53,10 @@ abbrev pub mach : Settings → Val
 mach d = LL.val T.the-type T′.the-laws d
 
 -- what is owned of a record at w fixes w
-is-mach : (d r : Settings) (w : Val) → r ≡ d → Is R r (w ∷ []) → w ≡ mach d
+pub is-mach : (d r : Settings) (w : Val) → r ≡ d → Is R r (w ∷ []) → w ≡ mach d
 is-mach d r w e is = ap only (LL.tells T.the-type T′.the-laws r (w ∷ []) is) ∙ ap mach e
 
-is-rec : (d r : Settings) (w : Val) → r ≡ d → Is R r (w ∷ []) → Is R d (mach d ∷ [])
+pub is-rec : (d r : Settings) (w : Val) → r ≡ d → Is R r (w ∷ []) → Is R d (mach d ∷ [])
 is-rec d r w e is = subst (λ (z : Settings). Is R z (mach z ∷ [])) e (subst (Is R r) (LL.tells T.the-type T′.the-laws r (w ∷ []) is) is)
 
 -- the contracts that are cited

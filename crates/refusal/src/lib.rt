@@ -1,6 +1,16 @@
-// The refusals of an event, in the order of the table: the first condition that holds gives the number.
+// The refusals, in the order of the table: the first condition that holds gives the number.
 ghost use mathlib.Core.Path.{_≡_};
 ghost use Rattle.refusal.specs.Table.{firstHolding, table};
+
+mod rows;
+
+pub use rows::lengths_wrong;
+pub use rows::nothing_to_cancel;
+pub use rows::reads_record;
+pub use rows::reads_tally;
+pub use rows::run_occupied;
+pub use rows::run_unsafe;
+pub use rows::status_wrong;
 
 // Which conditions of the table hold. 1, form, is the text's.
 pub struct Faults {

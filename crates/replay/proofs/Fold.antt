@@ -1,5 +1,5 @@
 -- A list of events is run one event at a time. Assumes nothing.
-use mathlib.Core.Path.{_≡_, refl}
+use mathlib.Core.Path.{_≡_, refl, ap}
 use mathlib.Core.List.{List, [], _∷_, _++_}
 use Prim.Native.Nat.{ℕ, _+_, _<_}
 use native.Mathlib.Numerals.{add-one}
@@ -8,8 +8,9 @@ use lib.ListN.{length, take, getD}
 use lib.Seq.{take-suc}
 use Rattle.event.specs.declared.Event.{Event}
 use Rattle.line.specs.Step.{stepOn}
-use Rattle.book.specs.Run.{World, after, runFrom}
-use Rattle.replay.specs.Replay.{turnedBy, plantIn}
+use Rattle.line.specs.State.{State}
+use Rattle.claim.specs.Run.{World, freshWorld, after, runFrom, run}
+use Rattle.replay.specs.Replay.{stateOf, turnedBy, Follows}
 use Rattle.replay.specs.declared.Plant.{Plant}
 use Rattle.replay.specs.declared.Turned.{Turned}
 
@@ -18,23 +19,24 @@ unfolding runFrom
 run-more w [] e = refl
 run-more w (x ∷ es) e = run-more (after w x) es e
 
+-- the state after one event more of a list
+followed : (s : State) (e : Event) → Follows s e (turnedBy s e) (stepOn s e .state .tallies)
+unfolding run
+followed s e events h = rw (run-more freshWorld events e, h) (refl, refl)
+
+pub follows : (s : State) (e : Event) (r : Turned) (ts : List ℤ) → r ≡ turnedBy s e → ts ≡ stepOn s e .state .tallies → Follows s e r ts
+follows s e r ts p q = rw (p, q) (followed s e)
+
 -- events run on a plant and its tallies
-abbrev pub ran : Plant → List ℤ → List Event → World
-ran p ts es = runFrom (record { line = p .line; settings = p .settings; tallies = ts; history = [] }) es
+abbrev pub ran : State → List Event → World
+ran s es = runFrom (record { state = s; history = [] }) es
 
--- a plant and tallies after the first i events
-pub record After (p₀ : Plant) (ts₀ : List ℤ) (es : List Event) (i : ℕ) (p : Plant) (ts : List ℤ) : Type 0 where
-  pub plant : p ≡ plantIn (ran p₀ ts₀ (take i es))
-  pub tallies : ts ≡ ran p₀ ts₀ (take i es) .tallies
+module _ (s₀ : State) (es : List Event) (i : ℕ) (d : Event) where
+  one-more : i < length es → ran s₀ (take (i + 1) es) ≡ after (ran s₀ (take i es)) (getD es i d)
+  one-more h = rw (add-one, take-suc es i d h) (run-more (record { state = s₀; history = [] }) (take i es) (getD es i d))
 
-module _ (p₀ : Plant) (ts₀ : List ℤ) (es : List Event) (i : ℕ) (d : Event) where
-  one-more : i < length es → ran p₀ ts₀ (take (i + 1) es) ≡ after (ran p₀ ts₀ (take i es)) (getD es i d)
-  one-more h =
-      rw (add-one, take-suc es i d h)
-      (run-more (record { line = p₀ .line; settings = p₀ .settings; tallies = ts₀; history = [] }) (take i es) (getD es i d))
-
-  pub turned-after : (p : Plant) (ts : List ℤ) → After p₀ ts₀ es i p ts → i < length es → (r : Turned) (out : List ℤ)
-      → r ≡ turnedBy (p .line) (p .settings) ts (getD es i d) → out ≡ stepOn (p .line) (p .settings) ts (getD es i d) .tallies
-      → After p₀ ts₀ es (i + 1) (r .plant) out
-  turned-after p ts a h r out q o =
-      record { plant = rw (one-more h, q, a .plant, a .tallies) refl; tallies = rw (one-more h, o, a .plant, a .tallies) refl }
+  -- a plant and tallies after the first i events, with a turn more
+  pub turned-after : (p : Plant) (ts : List ℤ) → stateOf p ts ≡ ran s₀ (take i es) .state → i < length es → (r : Turned) (out : List ℤ)
+      → r ≡ turnedBy (stateOf p ts) (getD es i d) → out ≡ stepOn (stateOf p ts) (getD es i d) .state .tallies
+      → stateOf (r .plant) out ≡ ran s₀ (take (i + 1) es) .state
+  turned-after p ts a h r out q o = rw (one-more h, q, o) (ap (λ (x : State). stepOn x (getD es i d) .state) a)

@@ -2,27 +2,30 @@
 ghost use mathlib.Core.Path.{_≡_};
 ghost use lib.ListN.{length};
 ghost use Rattle.tallies.specs.Memory.{talliesLength};
+ghost use Rattle.line.specs.State.{state};
 ghost use Rattle.line.specs.Step.{stepOn};
-ghost use Rattle.book.specs.Claim.{Stands};
-ghost use Rattle.replay.specs.Replay.{freshPlant, steppedBy, turnedBy, plantIn, replayed};
+ghost use Rattle.claim.specs.Claim.{Stands};
+ghost use Rattle.replay.specs.Replay.{freshPlant, stateOf, plantIn, steppedBy, turnedBy, Follows, replayed};
 use event::Event;
 use event::Reply;
 use line::Line;
 use line::Step;
+use settings::RECORDS;
 use settings::Settings;
 
 // A line with its own hundred settings records.
 pub struct Plant {
     pub line: Line,
-    pub settings: [Settings; 100],
+    pub settings: [Settings; RECORDS as usize],
 }
 
 // A step of the line, and the records after it.
 struct Stepped {
     step: Step,
-    settings: [Settings; 100],
+    settings: [Settings; RECORDS as usize],
 }
 
+// The plant after an event, and the reply.
 pub struct Turned {
     pub plant: Plant,
     pub reply: Reply,
@@ -33,17 +36,18 @@ impl Plant {
         ensures { λ r. ⌜ r ≡ freshPlant ⌝ }
     {
         let line = Line::fresh();
-        let settings = [Settings::blank(); 100];
+        let settings = [Settings::blank(); RECORDS as usize];
         Plant {
             line: line,
             settings: settings,
         }
     }
 
-    // One event on the plant and the lent tallies.
+    // One event on the plant and the lent tallies: a caller that owns its records needs no other call.
     pub fn turn(self, tallies: &mut [i64], e: Event) -> Turned
-        ensures answer { λ r. ⌜ r ≡ turnedBy (self .line) (self .settings) (now (tallies .entry)) e ⌝ }
-        ensures memory { λ r. ⌜ now (tallies .exit) ≡ stepOn (self .line) (self .settings) (now (tallies .entry)) e .tallies ⌝ }
+        ensures answer { λ r. ⌜ r ≡ turnedBy (stateOf self (now (tallies .entry))) e ⌝ }
+        ensures memory { λ r. ⌜ now (tallies .exit) ≡ stepOn (stateOf self (now (tallies .entry))) e .state .tallies ⌝ }
+        ensures follows { λ r. ⌜ Follows (stateOf self (now (tallies .entry))) e r (now (tallies .exit)) ⌝ }
     {
         let line = self.line;
         let settings = self.settings;
@@ -64,9 +68,14 @@ impl Plant {
 }
 
 // The line is lent a hundred records of its own for one event. Whole values go in and out, which keeps the walk small.
-fn lend_records(line: Line, settings: [Settings; 100], tallies: &mut [i64], e: Event) -> Stepped
-    ensures answer { λ r. ⌜ r ≡ steppedBy line settings (now (tallies .entry)) e ⌝ }
-    ensures memory { λ r. ⌜ now (tallies .exit) ≡ stepOn line settings (now (tallies .entry)) e .tallies ⌝ }
+fn lend_records(
+    line: Line,
+    settings: [Settings; RECORDS as usize],
+    tallies: &mut [i64],
+    e: Event,
+) -> Stepped
+    ensures answer { λ r. ⌜ r ≡ steppedBy (state line settings (now (tallies .entry))) e ⌝ }
+    ensures memory { λ r. ⌜ now (tallies .exit) ≡ stepOn (state line settings (now (tallies .entry))) e .state .tallies ⌝ }
 {
     let mut records = settings;
     let step = line.apply(&mut records, tallies, e);
@@ -79,8 +88,8 @@ fn lend_records(line: Line, settings: [Settings; 100], tallies: &mut [i64], e: E
 // Sixty-four events on a fresh plant, whose tallies are cleared first. A shorter list is filled up with `NoOperation`,
 // which changes nothing.
 pub fn replay(tallies: &mut [i64], events: [Event; 64]) -> Plant
-    ensures plant { λ r. ⌜ r ≡ plantIn (replayed (length (now (tallies .entry))) events) ⌝ }
-    ensures memory { λ r. ⌜ now (tallies .exit) ≡ replayed (length (now (tallies .entry))) events .tallies ⌝ }
+    ensures plant { λ r. ⌜ r ≡ plantIn (replayed (length (now (tallies .entry))) events .state) ⌝ }
+    ensures memory { λ r. ⌜ now (tallies .exit) ≡ replayed (length (now (tallies .entry))) events .state .tallies ⌝ }
     ensures stands { λ r. ⌜ (length (now (tallies .entry)) ≡ talliesLength → Stands (replayed (length (now (tallies .entry))) events)) ⌝ }
 {
     tallies::clear(&mut *tallies);

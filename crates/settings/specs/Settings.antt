@@ -2,6 +2,7 @@
 use Prim.Native.Nat.{ℕ}
 use mathlib.Core.Bool.{Bool, _&&_}
 use lib.IntN.{ℤ, pos}
+use lib.Dec.{leb, eqb}
 use lib.Signed.{leZ}
 use Rattle.weight.specs.Weight.{isWeight}
 use Rattle.settings.specs.declared.Settings.{Settings}
@@ -25,9 +26,20 @@ limitsOrdered s =
 abbrev pub recordFit : Settings → Bool
 recordFit s = recordRanged s && limitsOrdered s
 
--- "The hundred settings records"
+-- "Codes are 0 to 99."
+abbrev pub lastCode : ℕ
+lastCode = 99
+
+abbrev pub isCode : ℕ → Bool
+isCode c = leb c lastCode
+
+-- "The hundred settings records", one for each code
 abbrev pub settingsLength : ℕ
 settingsLength = 100
+
+-- so many records are there
+abbrev pub allThere : ℕ → Bool
+allThere count = eqb count settingsLength
 
 -- a record of fresh memory: all zeros
 abbrev pub blank : Settings

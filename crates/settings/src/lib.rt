@@ -1,9 +1,28 @@
 // A code's settings: its limits, the tare, and the grade of a net weight under them.
 ghost use mathlib.Core.Path.{_≡_};
-ghost use Rattle.settings.specs.Settings.{isLoad, recordRanged, limitsOrdered, recordFit, blank};
+ghost use Rattle.settings.specs.Settings.{isCode, allThere, isLoad, recordRanged, limitsOrdered, recordFit, blank};
 ghost use Rattle.settings.specs.Grade.{gradeOf};
 use weight::is_weight;
 
+// Codes are 0 to 99, each with a settings record of its own.
+pub const LAST_CODE: u64 = 99;
+
+pub const RECORDS: u64 = 100;
+
+pub fn is_code(code: u64) -> bool
+    ensures { λ r. ⌜ r ≡ isCode code ⌝ }
+{
+    code <= LAST_CODE
+}
+
+// So many records are there: one for each code.
+pub fn all_there(count: u64) -> bool
+    ensures { λ r. ⌜ r ≡ allThere count ⌝ }
+{
+    count == RECORDS
+}
+
+// A code's settings, in divisions: nearzero and tare are 0 to 999,999, the others weights.
 pub struct Settings {
     pub target: i64,
     pub lolo: i64,

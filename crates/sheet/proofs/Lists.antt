@@ -5,8 +5,9 @@ use native.Mathlib.Numerals.{add-one}
 use lib.IntN.{natAbs, _+ℤ_}
 use lib.ListN.{length}
 use Rattle.laws.proofs.Signed.{abs-add}
+use Rattle.lists.specs.Sums.{sumOf, squaresOf}
 use Rattle.spread.proofs.Squares.{one-more}
-use Rattle.sheet.specs.Apart.{sumOf, squaresOf, Apart}
+use Rattle.sheet.specs.Apart.{Apart}
 
 pub apart-holds : Apart
 unfolding sumOf squaresOf

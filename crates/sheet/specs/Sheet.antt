@@ -1,20 +1,16 @@
 -- 01, "The sheet's figures": what is printed of a code's tally.
-use Prim.Native.Nat.{_-_, _*_}
-use mathlib.Core.Bool.{Bool, _&&_}
-use lib.Dec.{leb, eqb}
-use lib.IntN.{ℤ, natAbs, _-ℤ_}
+use Prim.Native.Nat.{_-_}
+use lib.Dec.{eqb}
+use lib.IntN.{ℤ, pos, _-ℤ_}
 use Rattle.laws.specs.Choice.{if_then_else_}
 use Rattle.weight.specs.Mean.{rounded, meanOf}
 use Rattle.weight.specs.declared.Figure.{Figure}
 use Rattle.weight.specs.declared.Figure.the-variants.{None, Of}
 use Rattle.spread.specs.Figures.{sdOf, sdpOf}
-use Rattle.tally.specs.Tally.{total, tallyFit}
+use Rattle.spread.specs.declared.Spread.the-variants as spread
+use Rattle.tally.specs.Tally.{total}
 use Rattle.tally.specs.declared.tally.Tally.{Tally}
 use Rattle.sheet.specs.declared.sheet.Sheet.{Sheet}
-
--- "for a report S² ≤ n·Q"
-unfoldable pub reportFit : Tally → Bool
-reportFit t = tallyFit t && leb (natAbs (t .sum) * natAbs (t .sum)) (t .n * t .squares)
 
 -- "For n = 0 max, min, mean, deviation and sdp are none"
 abbrev pub unlessNone : Tally → ℤ → Figure
@@ -39,6 +35,29 @@ sheetOf t target =
       sum = t .sum;
       mean = meanOf (t .sum) (t .n);
       deviation = unlessNone t (rounded (t .sum) (t .n) -ℤ target);
-      sd = sdOf (t .n) (t .squares) (natAbs (t .sum));
-      sdp = sdpOf (t .n) (t .squares) (natAbs (t .sum));
+      sd = sdOf t;
+      sdp = sdpOf t;
+    }
+
+-- the sheet of a refused report: zeros and none
+abbrev pub blankSheet : Sheet
+blankSheet =
+    record {
+      total = 0;
+      ng = 0;
+      lolo = 0;
+      lo = 0;
+      ok = 0;
+      hi = 0;
+      hihi = 0;
+      foreign = 0;
+      double = 0;
+      crash = 0;
+      max = None;
+      min = None;
+      sum = pos 0;
+      mean = None;
+      deviation = None;
+      sd = spread.None;
+      sdp = spread.None;
     }

@@ -3,14 +3,14 @@ ghost use mathlib.Core.Path.{_≡_};
 ghost use mathlib.Core.Bool.{true};
 ghost use Prim.Native.Nat.{_≤_};
 ghost use Rattle.weight.specs.Weight.{isWeight};
-ghost use Rattle.tally.specs.Tally.{total};
-ghost use Rattle.sheet.specs.Sheet.{reportFit, unlessNone, sheetOf};
+ghost use Rattle.tally.specs.Tally.{tallyLimit, total};
+ghost use Rattle.spread.specs.Figures.{reportFit};
+ghost use Rattle.sheet.specs.Sheet.{unlessNone, sheetOf, blankSheet};
 ghost use Rattle.sheet.specs.Steps.{weightOrNone, lessTarget};
 use spread::Spread;
 use tally::Tally;
 use weight::Figure;
 use weight::mean_of;
-use weight::size;
 
 pub struct Sheet {
     pub total: u64,
@@ -32,11 +32,31 @@ pub struct Sheet {
     pub sdp: Spread,
 }
 
-// Fit for a report: the spreads are roots of n·Q - S², which must not be below 0.
-pub(crate) fn report_fit(t: Tally) -> bool
-    ensures { λ r. ⌜ r ≡ reportFit t ⌝ }
-{
-    t.fit() & spread::fit(t.n, t.squares, size(t.sum))
+impl Sheet {
+    // That of a refused report.
+    pub fn blank() -> Sheet
+        ensures { λ r. ⌜ r ≡ blankSheet ⌝ }
+    {
+        Sheet {
+            total: 0,
+            ng: 0,
+            lolo: 0,
+            lo: 0,
+            ok: 0,
+            hi: 0,
+            hihi: 0,
+            foreign: 0,
+            double: 0,
+            crash: 0,
+            max: Figure::None,
+            min: Figure::None,
+            sum: 0,
+            mean: Figure::None,
+            deviation: Figure::None,
+            sd: Spread::None,
+            sdp: Spread::None,
+        }
+    }
 }
 
 pub(crate) fn sheet_of(t: Tally, target: i64) -> Sheet
@@ -45,7 +65,6 @@ pub(crate) fn sheet_of(t: Tally, target: i64) -> Sheet
 {
     let total = total_of(t);
     let mean = mean_of(t.sum, t.n);
-    let s = size(t.sum);
     Sheet {
         total: total,
         ng: total - t.ok,
@@ -62,13 +81,13 @@ pub(crate) fn sheet_of(t: Tally, target: i64) -> Sheet
         sum: t.sum,
         mean: mean,
         deviation: deviation_of(mean, target),
-        sd: spread::sd(t.n, t.squares, s),
-        sdp: spread::sdp(t.n, t.squares, s),
+        sd: spread::sd(t),
+        sdp: spread::sdp(t),
     }
 }
 
 fn total_of(t: Tally) -> u64
-    requires { ⌜ total t ≤ 999999 ⌝ }
+    requires { ⌜ total t ≤ tallyLimit ⌝ }
     ensures { λ r. ⌜ r ≡ total t ⌝ }
 {
     t.lolo + t.lo + t.ok + t.hi + t.hihi + t.foreign + t.double + t.crash

@@ -1,27 +1,28 @@
--- What the tests of a tally tell, when a spread is none, and that no root reaches the bracket's first end.
+-- What a tally that is fit for a report tells, when a spread is none, and that no root reaches the bracket's first end.
 use mathlib.Core.Path.{_≡_}
-use mathlib.Core.Bool.{true, _&&_, and-eq-true-iff}
+use mathlib.Core.Bool.{true}
 use Prim.Native.Nat.{ℕ, _+_, _-_, _*_, _≤_, _<_}
 use native.Mathlib.Nat.{mul-le-mul-left, mul-pos}
 use native.Mathlib.Omega.{arith}
 use lib.Dec.{leb}
+use lib.IntN.{natAbs}
 use borrow.Author.Tests.{leb-true, le-ltb}
-use Rattle.spread.specs.Figures.{fitOf, times, spreadOf, sdOf}
+use Rattle.laws.proofs.Tests.{both}
+use Rattle.tally.specs.Tally.{tallyFit}
+use Rattle.tally.specs.declared.tally.Tally.{Tally}
+use Rattle.tally.proofs.Facts.{FitTally, fit-tells}
+use Rattle.spread.specs.Figures.{reportFit, times, spreadOf, sdOf, sdpOf}
 use Rattle.spread.specs.declared.Spread.the-variants.{None}
 
-pub record Fit (n q s : ℕ) : Type 0 where
-  pub few : n ≤ 999999
-  pub sum : s ≤ n * 999999
-  pub squares : q ≤ n * 1000000000000
-  pub apart : s * s ≤ n * q
+pub record Fit (t : Tally) : Type 0 where
+  pub tally : FitTally t
+  pub apart : natAbs (t .sum) * natAbs (t .sum) ≤ t .n * t .squares
 
-pub fit-facts : (n q s : ℕ) → fitOf n q s ≡ true → Fit n q s
-unfolding fitOf
-fit-facts n q s e =
-    let a = and-eq-true-iff (leb n 999999 && leb s (n * 999999) && leb q (n * 1000000000000)) (leb (s * s) (n * q)) .0 e in
-    let b = and-eq-true-iff (leb n 999999 && leb s (n * 999999)) (leb q (n * 1000000000000)) .0 (a .0) in
-    let d = and-eq-true-iff (leb n 999999) (leb s (n * 999999)) .0 (b .0) in
-    record { few = leb-true _ _ (d .0); sum = leb-true _ _ (d .1); squares = leb-true _ _ (b .1); apart = leb-true _ _ (a .1) }
+pub fit-facts : (t : Tally) → reportFit t ≡ true → Fit t
+unfolding reportFit
+fit-facts t e =
+    let a = both (tallyFit t) (leb (natAbs (t .sum) * natAbs (t .sum)) (t .n * t .squares)) e in
+    record { tally = fit-tells t (a .0); apart = leb-true _ _ (a .1) }
 
 -- n ≤ 2·m and q ≤ n·10^12 leave room for `times` up to 112
 pub below-first-end : (n m q s : ℕ) → 0 < m → m ≤ n → n ≤ m + 1 → q ≤ n * 1000000000000 → times * (n * q - s * s) < 15000000 * 15000000 * (n * m)
@@ -30,6 +31,10 @@ below-first-end n m q s a b f e =
     let p : 0 < n * m = mul-pos {m = n} {n = m} (omega arith) a in
     omega (arith, mul-le-mul-left n g)
 
-pub sd-none : (n q s : ℕ) → n < 2 → sdOf n q s ≡ None
+pub sd-none : (t : Tally) → t .n < 2 → sdOf t ≡ None
 unfolding spreadOf
-sd-none n q s h = rw (le-ltb 0 (n - 1) (omega arith))
+sd-none t h = rw (le-ltb 0 (t .n - 1) (omega arith))
+
+pub sdp-none : (t : Tally) → t .n ≡ 0 → sdpOf t ≡ None
+unfolding spreadOf
+sdp-none t h = rw (le-ltb 0 (t .n) (omega arith))

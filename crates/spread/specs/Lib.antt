@@ -1,4 +1,4 @@
 pub mod Root
 pub mod Figures
-pub mod Bench
+pub mod Theorem
 pub mod Wide

@@ -13,6 +13,6 @@ unfoldable pub rootFrom : (k d x : ℕ) → ℕ
 rootFrom zero d x = zero
 rootFrom (suc k) d x = if leb (suc k * suc k * d) x then suc k else rootFrom k d x
 
--- the largest, as a function: for d above 0 no s above x will do. That it is `Largest`, and the only one, `Bench` claims
+-- the largest, as a function: for d above 0 no s above x will do. That it is `Largest`, and the only one, `RootIsTheLargest` claims
 unfoldable pub root : (d x : ℕ) → ℕ
 root d x = rootFrom x d x

@@ -1,16 +1,19 @@
-// The spread of a tally, exactly: document 01, "The sheet's figures". A tally comes as the number n of its graded
-// verdicts, their sum of squares q and the size s of their sum.
+// The spread of a tally, exactly: document 01, "The sheet's figures". Below, n is the number of its graded verdicts, q
+// their sum of squares and s the size of their sum.
 ghost use mathlib.Core.Path.{_≡_};
 ghost use mathlib.Core.Bool.{true};
-ghost use Prim.Native.Nat.{_+_, _-_, _*_, _≤_, _<_};
+ghost use Prim.Native.Nat.{_+_, _*_, _≤_, _<_};
 ghost use lib.Dec.{leb};
+ghost use Rattle.tally.specs.Tally.{tallyLimit};
 ghost use Rattle.spread.specs.Root.{Largest};
-ghost use Rattle.spread.specs.Figures.{fitOf, times, spreadOf, sdOf, sdpOf};
-ghost use Rattle.spread.specs.Bench.{Bench};
+ghost use Rattle.spread.specs.Figures.{reportFit, apartOf, times, spreadOf, sdOf, sdpOf};
+ghost use Rattle.spread.specs.Theorem.{RootIsTheLargest};
 ghost use Rattle.spread.specs.Wide.{value, Digits, Holds};
 
 mod wide;
 
+use tally::Tally;
+use weight::size;
 use wide::Wide;
 
 // How often n * q - s * s is taken: `times` of specs/Figures.antt.
@@ -22,64 +25,66 @@ pub enum Spread {
     Of(u64),
 }
 
-// Are these the figures of a tally that is fit for a report?
-pub fn fit(n: u64, q: u64, s: u64) -> bool
-    ensures { λ r. ⌜ r ≡ fitOf n q s ⌝ }
+// Fit for a report: the spreads are roots of n * q - s * s, which must not be below 0.
+pub fn fit(t: Tally) -> bool
+    ensures { λ r. ⌜ r ≡ reportFit t ⌝ }
 {
-    if 999_999 < n {
+    if !t.fit() {
         return false;
     }
-    if (s <= n * 999_999) & (q <= n * 1_000_000_000_000) {
-        return Wide::product(s, s).at_most(Wide::of(q).by(n));
-    }
-    false
+    let s = size(t.sum);
+    Wide::product(s, s).at_most(Wide::of(t.squares).by(t.n))
 }
 
 // The spread of a sample, over n * (n - 1).
-pub fn sd(n: u64, q: u64, s: u64) -> Spread
-    ensures { λ r. ⌜ r ≡ sdOf n q s ⌝ }
+pub fn sd(t: Tally) -> Spread
+    ensures { λ r. ⌜ r ≡ sdOf t ⌝ }
 {
-    if n < 2 {
+    if t.n < 2 {
         return Spread::None;
     }
-    over(n, n - 1, q, s)
+    over(t, t.n - 1)
 }
 
 // The spread of a population, over n * n.
-pub fn sdp(n: u64, q: u64, s: u64) -> Spread
-    ensures { λ r. ⌜ r ≡ sdpOf n q s ⌝ }
+pub fn sdp(t: Tally) -> Spread
+    ensures { λ r. ⌜ r ≡ sdpOf t ⌝ }
 {
-    over(n, n, q, s)
+    over(t, t.n)
 }
 
 // Says nothing of the code: its contract is the theorem on the definitions.
-pub fn bench()
-    ensures { λ _. ⌜ Bench ⌝ }
+pub fn root_is_the_largest()
+    ensures { λ _. ⌜ RootIsTheLargest ⌝ }
 {}
 
 // The spread over n * m.
-fn over(n: u64, m: u64, q: u64, s: u64) -> Spread
-    requires { ⌜ (m ≤ n) × (n ≤ m + 1) ⌝ }
-    ensures { λ r. ⌜ r ≡ spreadOf n m q s ⌝ }
+fn over(t: Tally, m: u64) -> Spread
+    requires { ⌜ (m ≤ t .n) × (t .n ≤ m + 1) ⌝ }
+    ensures { λ r. ⌜ r ≡ spreadOf t m ⌝ }
 {
-    if (0 < m) & fit(n, q, s) {
-        return Spread::Of(root(n, m, apart(n, q, s)));
+    if (0 < m) & fit(t) {
+        return Spread::Of(root(t.n, m, apart(t)));
     }
     Spread::None
 }
 
 // TIMES * (n * q - s * s)
-fn apart(n: u64, q: u64, s: u64) -> Wide
-    requires { ⌜ fitOf n q s ≡ true ⌝ }
-    ensures { λ r. ⌜ Holds r (times * (n * q - s * s)) ⌝ }
+fn apart(t: Tally) -> Wide
+    requires { ⌜ reportFit t ≡ true ⌝ }
+    ensures { λ r. ⌜ Holds r (times * apartOf t) ⌝ }
 {
-    Wide::of(q).by(n).less(Wide::product(s, s)).by(TIMES)
+    let s = size(t.sum);
+    Wide::of(t.squares)
+        .by(t.n)
+        .less(Wide::product(s, s))
+        .by(TIMES)
 }
 
 // The largest r that fits in x, by halving a bracket around it. No root of a fit tally reaches the bracket's first end,
 // with TIMES up to 100: r * r is at most 100 * 2 * 10^12.
 fn root(n: u64, m: u64, x: Wide) -> u64
-    requires { ⌜ (n ≤ 999999) × (m ≤ n) × Digits x × (value x < 15000000 * 15000000 * (n * m)) ⌝ }
+    requires { ⌜ (n ≤ tallyLimit) × (m ≤ n) × Digits x × (value x < 15000000 * 15000000 * (n * m)) ⌝ }
     ensures { λ r. ⌜ Largest (n * m) (value x) r ⌝ }
 {
     let mut low = 0;
@@ -97,7 +102,7 @@ fn root(n: u64, m: u64, x: Wide) -> u64
 
 // r * r * n * m <= x
 fn fits_in(r: u64, n: u64, m: u64, x: Wide) -> bool
-    requires { ⌜ (r ≤ 15000000) × (n ≤ 999999) × (m ≤ n) × Digits x ⌝ }
+    requires { ⌜ (r ≤ 15000000) × (n ≤ tallyLimit) × (m ≤ n) × Digits x ⌝ }
     ensures { λ t. ⌜ t ≡ leb (r * r * (n * m)) (value x) ⌝ }
 {
     Wide::of(r * r).by(n).by(m).at_most(x)

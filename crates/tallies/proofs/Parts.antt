@@ -10,8 +10,10 @@ use lib.Dec.{leb·zero}
 use lib.IntN.{ℤ, pos}
 use lib.ListN.{length, take, drop, replicate, length-drop, length-append, length-replicate, replicate-append-replicate}
 use lib.Seq.{take-at, drop-at, length-take-le, take-add, take-take, drop-drop}
+use borrow.Author.Tests.{le-leb, eq-eqb}
+use Rattle.laws.proofs.Tests.{both, and-intro}
 use Rattle.tally.specs.Tally.{tallyFit, emptyTally}
-use Rattle.tallies.specs.Memory.{numbers, part, tallyOf, unsigned, tallyAt, tallyAtFit, withTally, zeros, talliesLength}
+use Rattle.tallies.specs.Memory.{numbers, part, tallyOf, unsigned, partFit, tallyAt, tallyAtFit, lies, withTally, written, zeros, talliesLength}
 use Rattle.tally.specs.declared.tally.Tally.{Tally}
 
 module _ (ts : List ℤ) (code : ℕ) (t : Tally) (room : code * 13 + 13 ≤ length ts) where
@@ -115,14 +117,13 @@ module _ (ts : List ℤ) (code : ℕ) (t : Tally) (len : length ts ≡ talliesLe
   tally-same = rw (part-same ts code t (omega arith)) (tally-of-numbers t)
 
   pub fit-same : tallyFit t ≡ true → tallyAtFit (withTally ts code t) code ≡ true
-  unfolding tallyAtFit
+  unfolding partFit
   fit-same h = rw (part-same ts code t (omega arith), unsigned-numbers t, tally-of-numbers t) h
 
   pub tally-other : (other : ℕ) → other ≢ code → tallyAt (withTally ts code t) other ≡ tallyAt ts other
   tally-other other d = ap tallyOf (part-other ts code other t (omega arith) d)
 
   pub fit-other : (other : ℕ) → other ≢ code → tallyAtFit (withTally ts code t) other ≡ tallyAtFit ts other
-  unfolding tallyAtFit
   fit-other other d = rw (part-other ts code other t (omega arith) d)
 
 pub tally-zeros : (code : ℕ) → code ≤ 99 → tallyAt (zeros talliesLength) code ≡ emptyTally
@@ -130,9 +131,21 @@ unfolding tallyOf
 tally-zeros code h = rw (part-zeros code h)
 
 pub fit-zeros : (code : ℕ) → code ≤ 99 → tallyAtFit (zeros talliesLength) code ≡ true
-unfolding tallyAtFit unsigned tallyOf tallyFit
+unfolding partFit unsigned tallyOf tallyFit
 fit-zeros code h = rw (part-zeros code h)
 
 pub length-zeros : length (zeros talliesLength) ≡ talliesLength
 unfolding zeros
 length-zeros = length-replicate 1300 (pos 0)
+
+-- a fit part has a fit tally
+pub tally-fit : (ts : List ℤ) (code : ℕ) → tallyAtFit ts code ≡ true → tallyFit (tallyAt ts code) ≡ true
+unfolding partFit
+tally-fit ts code h = both (unsigned (part ts code)) (tallyFit (tallyAt ts code)) h .1
+
+-- a code and a memory of the right length
+pub lies-there : (ts : List ℤ) (code : ℕ) → code ≤ 99 → length ts ≡ talliesLength → lies ts code ≡ true
+lies-there ts code low len = and-intro (le-leb code 99 low) (eq-eqb (length ts) talliesLength len)
+
+pub written-is : (ts : List ℤ) (code : ℕ) (t : Tally) → lies ts code ≡ true → tallyFit t ≡ true → written ts code t ≡ withTally ts code t
+written-is ts code t h f = rw (h, f) refl

@@ -7,10 +7,9 @@ use lib.IntN.{ℤ, pos, natAbs}
 use lib.Signed.{leZ}
 use lib.ListN.{length, getD, take, drop, replicate}
 use Rattle.laws.specs.Choice.{if_then_else_}
+use Rattle.settings.specs.Settings.{lastCode}
 use Rattle.tally.specs.declared.tally.Tally.{Tally}
-use Rattle.tallies.specs.declared.Lent.{Lent}
-use Rattle.tallies.specs.declared.Lent.the-variants.{Fit, Unfit}
-use Rattle.tally.specs.Tally.{tallyFit}
+use Rattle.tally.specs.Tally.{emptyTally, tallyFit}
 
 -- the numbers of a part, in their order
 abbrev pub numbers : Tally → List ℤ
@@ -19,13 +18,17 @@ numbers t =
     ∷ pos (t .foreign) ∷ pos (t .double) ∷ pos (t .crash)
     ∷ pos (t .n) ∷ t .sum ∷ pos (t .squares) ∷ t .largest ∷ t .smallest ∷ []
 
--- all parts together
+-- how many numbers a part has
+abbrev pub partLength : ℕ
+partLength = 13
+
+-- all parts together, one for each code
 abbrev pub talliesLength : ℕ
 talliesLength = 1300
 
 -- code's part
 unfoldable pub part : List ℤ → ℕ → List ℤ
-part ts code = take 13 (drop (code * 13) ts)
+part ts code = take partLength (drop (code * partLength) ts)
 
 -- the tally whose numbers these are; a count has no sign
 unfoldable pub tallyOf : List ℤ → Tally
@@ -58,21 +61,28 @@ unsigned p =
 abbrev pub tallyAt : List ℤ → ℕ → Tally
 tallyAt ts code = tallyOf (part ts code)
 
--- code's part holds a fit tally
-unfoldable pub tallyAtFit : List ℤ → ℕ → Bool
-tallyAtFit ts code = unsigned (part ts code) && tallyFit (tallyAt ts code)
+-- a part holds a fit tally
+unfoldable pub partFit : List ℤ → Bool
+partFit p = unsigned p && tallyFit (tallyOf p)
+
+abbrev pub tallyAtFit : List ℤ → ℕ → Bool
+tallyAtFit ts code = partFit (part ts code)
 
 -- a code and a memory of the right length
 abbrev pub lies : List ℤ → ℕ → Bool
-lies ts code = leb code 99 && eqb (length ts) talliesLength
+lies ts code = leb code lastCode && eqb (length ts) talliesLength
+
+-- code's part is there, and holds a fit tally
+unfoldable pub fitAt : List ℤ → ℕ → Bool
+fitAt ts code = lies ts code && tallyAtFit ts code
 
 -- what reading code's part gives
-unfoldable pub lentAt : List ℤ → ℕ → Lent
-lentAt ts code = if lies ts code && tallyAtFit ts code then Fit (tallyAt ts code) else Unfit
+abbrev pub readAt : List ℤ → ℕ → Tally
+readAt ts code = if lies ts code then tallyAt ts code else emptyTally
 
 -- the memory with a tally in code's part
 unfoldable pub withTally : List ℤ → ℕ → Tally → List ℤ
-withTally ts code t = take (code * 13) ts ++ (numbers t ++ drop (code * 13 + 13) ts)
+withTally ts code t = take (code * partLength) ts ++ (numbers t ++ drop (code * partLength + partLength) ts)
 
 -- what writing leaves: an unfit tally, code or memory is not written
 abbrev pub written : List ℤ → ℕ → Tally → List ℤ
@@ -81,7 +91,3 @@ written ts code t = if lies ts code && tallyFit t then withTally ts code t else 
 -- "all zeros"
 unfoldable pub zeros : ℕ → List ℤ
 zeros k = replicate k (pos 0)
-
--- what a part holds
-abbrev pub lentOf : List ℤ → Lent
-lentOf p = if unsigned p && tallyFit (tallyOf p) then Fit (tallyOf p) else Unfit

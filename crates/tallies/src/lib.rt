@@ -4,46 +4,61 @@ ghost use Prim.Native.Nat.{_<_, _^_};
 ghost use lib.IntN.{pos, natAbs};
 ghost use lib.ListN.{length, getD};
 ghost use Rattle.tally.specs.Steps.{Small};
-ghost use Rattle.tallies.specs.Memory.{numbers, tallyOf, unsigned, lentOf, lentAt, written, zeros};
+ghost use Rattle.tallies.specs.Memory.{partLength, numbers, tallyOf, unsigned, partFit, fitAt, readAt, written, zeros};
+use settings::LAST_CODE;
 use tally::Tally;
 use weight::size;
 
-// What code's part holds.
-pub enum Lent {
-    Fit(Tally),
-    Unfit,
+// The numbers of a part, and of all parts, one for each code.
+pub const PART: usize = 13;
+
+pub const LENGTH: usize = 1300;
+
+// Code's part holds a fit tally, in a memory of the right length.
+pub fn fit_at(tallies: &[i64], code: u64) -> bool
+    ensures { λ r. ⌜ r ≡ fitAt (now (tallies .entry)) code ⌝ }
+{
+    if LAST_CODE < code {
+        return false;
+    }
+    if tallies.len() != LENGTH {
+        return false;
+    }
+    let at = (code * PART as u64) as usize;
+    let end = at + PART;
+    part_fit(&tallies[at..end])
 }
 
-// Code's tally, if the memory has its length and the part is fit.
-pub fn read(tallies: &[i64], code: u64) -> Lent
-    ensures { λ r. ⌜ r ≡ lentAt (now (tallies .entry)) code ⌝ }
+// Code's tally; the empty one where there is no such code or the memory has a wrong length.
+pub fn read(tallies: &[i64], code: u64) -> Tally
+    ensures { λ r. ⌜ r ≡ readAt (now (tallies .entry)) code ⌝ }
 {
-    if 99 < code {
-        return Lent::Unfit;
+    if LAST_CODE < code {
+        return Tally::empty();
     }
-    if tallies.len() != 1300 {
-        return Lent::Unfit;
+    if tallies.len() != LENGTH {
+        return Tally::empty();
     }
-    let at = (code * 13) as usize;
-    let end = at + 13;
-    lent_in(&tallies[at..end])
+    let at = (code * PART as u64) as usize;
+    let end = at + PART;
+    tally_of(&tallies[at..end])
 }
 
 // A fit tally is put into code's part; anything else is not written.
 pub fn write(tallies: &mut [i64], code: u64, t: Tally)
     ensures { λ _. ⌜ now (tallies .exit) ≡ written (now (tallies .entry)) code t ⌝ }
 {
-    if 99 < code {
+    if LAST_CODE < code {
         return;
     }
-    if tallies.len() != 1300 {
+    if tallies.len() != LENGTH {
         return;
     }
     if !t.fit() {
         return;
     }
-    let at = (code * 13) as usize;
-    let end = at + 13;
+    let at = (code * PART as u64) as usize;
+    let end = at + PART;
     put(&mut tallies[at..end], t);
 }
 
@@ -60,22 +75,18 @@ pub fn clear(tallies: &mut [i64])
 }
 
 // A count below 0 is unfit, so the signs are tested before the sizes are taken.
-fn lent_in(p: &[i64]) -> Lent
-    requires { ⌜ length (now p) ≡ 13 ⌝ }
-    ensures { λ r. ⌜ r ≡ lentOf (now (p .entry)) ⌝ }
+fn part_fit(p: &[i64]) -> bool
+    requires { ⌜ length (now p) ≡ partLength ⌝ }
+    ensures { λ r. ⌜ r ≡ partFit (now (p .entry)) ⌝ }
 {
     if !is_unsigned(p) {
-        return Lent::Unfit;
+        return false;
     }
-    let held = tally_of(p);
-    if !held.fit() {
-        return Lent::Unfit;
-    }
-    Lent::Fit(held)
+    tally_of(p).fit()
 }
 
 fn is_unsigned(p: &[i64]) -> bool
-    requires { ⌜ length (now p) ≡ 13 ⌝ }
+    requires { ⌜ length (now p) ≡ partLength ⌝ }
     ensures { λ r. ⌜ r ≡ unsigned (now (p .entry)) ⌝ }
 {
     (0 <= p[0])
@@ -91,7 +102,7 @@ fn is_unsigned(p: &[i64]) -> bool
 }
 
 fn tally_of(p: &[i64]) -> Tally
-    requires { ⌜ length (now p) ≡ 13 ⌝ }
+    requires { ⌜ length (now p) ≡ partLength ⌝ }
     ensures { λ r. ⌜ r ≡ tallyOf (now (p .entry)) ⌝ }
 {
     Tally {
@@ -120,7 +131,7 @@ fn count_at(p: &[i64], k: usize) -> u64
 
 // The numbers of a fit tally are far below 2^63, so that the casts keep them.
 fn put(p: &mut [i64], t: Tally)
-    requires { ⌜ (length (now p) ≡ 13) × (Small t) × (t .squares < 2 ^ 63) ⌝ }
+    requires { ⌜ (length (now p) ≡ partLength) × (Small t) × (t .squares < 2 ^ 63) ⌝ }
     ensures { λ _. ⌜ now (p .exit) ≡ numbers t ⌝ }
 {
     p[0] = t.lolo as i64;

@@ -6,11 +6,11 @@ use Prim.Native.Nat.{ℕ, _*_, _≤_}
 use native.Mathlib.Nat.{mul-le-mul-left}
 use native.Mathlib.Omega.{arith}
 use lib.Dec.{leb, eqb}
-use lib.IntN.{natAbs}
+use lib.IntN.{ℤ, natAbs}
 use borrow.Author.Tests.{leb-true, eqb-true, le-leb}
 use Rattle.weight.specs.Weight.{isWeight}
 use Rattle.laws.proofs.Tests.{both, by-cases}
-use Rattle.tally.specs.Tally.{graded, total, tallyFit}
+use Rattle.tally.specs.Tally.{graded, total, tallyFit, hasRoom, isVerdict, takes}
 use Rattle.tally.specs.Steps.{smallCounts, Small, Bounded, noneIsZero}
 use Rattle.tally.specs.declared.tally.Tally.{Tally}
 
@@ -108,3 +108,16 @@ large-unfit t h =
 -- a weight's square
 pub square-le : (m : ℕ) → m ≤ 999999 → m * m ≤ 999998000001
 square-le m h = omega (arith, mul-le-mul-left m h)
+
+-- what it tells that a verdict is taken
+pub record Taken (t : Tally) (v : ℕ) (net : ℤ) : Type 0 where
+  pub fit : tallyFit t ≡ true
+  pub verdict : isVerdict v ≡ true
+  pub weight : isWeight net ≡ true
+  pub room : hasRoom t ≡ true
+
+pub takes-tells : (t : Tally) (v : ℕ) (net : ℤ) → takes t v net ≡ true → Taken t v net
+unfolding takes
+takes-tells t v net h =
+    let f = each (tallyFit t) (isVerdict v ∷ isWeight net ∷ hasRoom t ∷ []) h in
+    record { fit = f .0; verdict = f .1 .0; weight = f .1 .1 .0; room = f .1 .1 .1 .0 }

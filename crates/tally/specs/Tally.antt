@@ -6,10 +6,17 @@ use lib.Dec.{leb, ltb, eqb}
 use lib.IntN.{ℤ, pos, natAbs, _+ℤ_}
 use lib.Signed.{ltZ}
 use Rattle.laws.specs.Choice.{if_then_else_, within}
-use Rattle.weight.specs.Weight.{isWeight}
+use Rattle.weight.specs.Weight.{largestWeight, isWeight}
 use Rattle.tally.specs.declared.tally.Tally.{Tally}
 use Rattle.tally.specs.declared.tally.Noted.{Noted}
-use Rattle.tally.specs.declared.tally.Noted.the-variants.{Tallied, Untallied}
+
+-- "at most 999,999 verdicts"
+abbrev pub tallyLimit : ℕ
+tallyLimit = 999999
+
+-- "10^12", more than the square of any weight
+abbrev pub largestSquare : ℕ
+largestSquare = 1000000000000
 
 -- the five grade counts together
 abbrev pub graded : Tally → ℕ
@@ -41,16 +48,16 @@ emptyTally =
 -- "A tally is fit with at most 999,999 verdicts, n the sum of the five grade counts, |S| ≤ n × 999,999, Q from 0 to n × 10^12, largest and smallest weights (0 at n = 0)"
 unfoldable pub tallyFit : Tally → Bool
 tallyFit t =
-    leb (total t) 999999
+    leb (total t) tallyLimit
     && eqb (t .n) (graded t)
-    && leb (natAbs (t .sum)) (t .n * 999999)
-    && leb (t .squares) (t .n * 1000000000000)
+    && leb (natAbs (t .sum)) (t .n * largestWeight)
+    && leb (t .squares) (t .n * largestSquare)
     && isWeight (t .largest) && isWeight (t .smallest)
     && (if eqb (t .n) 0 then eqb (natAbs (t .largest)) 0 && eqb (natAbs (t .smallest)) 0 else true)
 
 -- "At 999,999 verdicts a further one is given but not tallied."
 unfoldable pub hasRoom : Tally → Bool
-hasRoom t = ltb (total t) 999999
+hasRoom t = ltb (total t) tallyLimit
 
 -- "A verdict (outcome 1 to 8)"
 abbrev pub isVerdict : ℕ → Bool
@@ -113,7 +120,11 @@ weighedWith t net =
 unfoldable pub added : Tally → ℕ → ℤ → Tally
 added t v net = if isGrade v then weighedWith (countedWith t v) net else countedWith t v
 
--- a verdict noted in a tally: tallied, or left out where there is no room (or no fit tally, verdict or net)
+-- a tally takes a verdict with its net: all three are fit, and there is room
+unfoldable pub takes : Tally → ℕ → ℤ → Bool
+takes t v net = tallyFit t && isVerdict v && isWeight net && hasRoom t
+
+-- a verdict tallied; or given but not tallied, which leaves the tally
 unfoldable pub notedOf : Tally → ℕ → ℤ → Noted
 notedOf t v net =
-    if tallyFit t && isVerdict v && isWeight net && hasRoom t then Tallied (added t v net) else Untallied
+    if takes t v net then record { taken = 1; tally = added t v net } else record { taken = 0; tally = t }

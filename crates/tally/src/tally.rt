@@ -3,8 +3,10 @@ ghost use mathlib.Core.Path.{_≡_};
 ghost use mathlib.Core.Bool.{true};
 ghost use Prim.Native.Nat.{_≤_};
 ghost use lib.IntN.{natAbs};
+ghost use Rattle.weight.specs.Weight.{largestWeight};
 ghost use Rattle.tally.specs.Steps.{smallCounts, Small, Bounded, noneIsZero};
-ghost use Rattle.tally.specs.Tally.{graded, total, emptyTally, tallyFit, hasRoom, one, countedWith, weighedWith, largestWith, smallestWith, added, notedOf};
+ghost use Rattle.tally.specs.Tally.{graded, total, emptyTally, tallyFit, hasRoom, one, countedWith, weighedWith, largestWith, smallestWith, added, takes, notedOf};
+use weight::LARGEST;
 use weight::is_weight;
 use weight::size;
 
@@ -24,10 +26,10 @@ pub struct Tally {
     pub smallest: i64,
 }
 
-// What became of a verdict that was to be noted.
-pub enum Noted {
-    Tallied(Tally),
-    Untallied,
+// What became of a verdict that was to be tallied: 1 and the tally with it, or 0 and the tally as it was.
+pub struct Noted {
+    pub taken: u64,
+    pub tally: Tally,
 }
 
 // 1 for the verdict itself, 0 for another.
@@ -41,6 +43,12 @@ fn one_if(verdict: u64, k: u64) -> u64
 }
 
 impl Tally {
+    // verdicts that a tally takes
+    pub const LIMIT: u64 = 999_999;
+
+    // more than the square of any weight
+    const LARGEST_SQUARE: u64 = 1_000_000_000_000;
+
     pub fn empty() -> Tally
         ensures { λ r. ⌜ r ≡ emptyTally ⌝ }
     {
@@ -67,10 +75,10 @@ impl Tally {
         if !self.is_small() {
             return false;
         }
-        (self.total() <= 999999)
+        (self.total() <= Tally::LIMIT)
             & (self.n == self.graded())
-            & (size(self.sum) <= self.n * 999999)
-            & (self.squares <= self.n * 1000000000000)
+            & (size(self.sum) <= self.n * LARGEST)
+            & (self.squares <= self.n * Tally::LARGEST_SQUARE)
             & is_weight(self.largest)
             & is_weight(self.smallest)
             & self.none_is_zero()
@@ -80,31 +88,41 @@ impl Tally {
     pub fn noted(self, verdict: u64, net: i64) -> Noted
         ensures { λ r. ⌜ r ≡ notedOf self verdict net ⌝ }
     {
+        if self.takes(verdict, net) {
+            let next = self.added(verdict, net);
+            return Noted {
+                taken: 1,
+                tally: next,
+            };
+        }
+        Noted {
+            taken: 0,
+            tally: self,
+        }
+    }
+
+    fn takes(self, verdict: u64, net: i64) -> bool
+        ensures { λ r. ⌜ r ≡ takes self verdict net ⌝ }
+    {
         if !self.fit() {
-            return Noted::Untallied;
+            return false;
         }
-        if !((1 <= verdict) & (verdict <= 8) & is_weight(net)) {
-            return Noted::Untallied;
-        }
-        if !self.has_room() {
-            return Noted::Untallied;
-        }
-        Noted::Tallied(self.added(verdict, net))
+        ((1 <= verdict) & (verdict <= 8)) & is_weight(net) & self.has_room()
     }
 
     // The counts and n are tested one by one, since a sum of any eight numbers may overflow.
     fn is_small(self) -> bool
         ensures { λ r. ⌜ r ≡ smallCounts self ⌝ }
     {
-        (self.lolo <= 999999)
-            & (self.lo <= 999999)
-            & (self.ok <= 999999)
-            & (self.hi <= 999999)
-            & (self.hihi <= 999999)
-            & (self.foreign <= 999999)
-            & (self.double <= 999999)
-            & (self.crash <= 999999)
-            & (self.n <= 999999)
+        (self.lolo <= Tally::LIMIT)
+            & (self.lo <= Tally::LIMIT)
+            & (self.ok <= Tally::LIMIT)
+            & (self.hi <= Tally::LIMIT)
+            & (self.hihi <= Tally::LIMIT)
+            & (self.foreign <= Tally::LIMIT)
+            & (self.double <= Tally::LIMIT)
+            & (self.crash <= Tally::LIMIT)
+            & (self.n <= Tally::LIMIT)
     }
 
     fn graded(self) -> u64
@@ -142,11 +160,11 @@ impl Tally {
         requires { ⌜ Small self ⌝ }
         ensures { λ r. ⌜ r ≡ hasRoom self ⌝ }
     {
-        self.total() < 999999
+        self.total() < Tally::LIMIT
     }
 
     fn added(self, verdict: u64, net: i64) -> Tally
-        requires { ⌜ (tallyFit self ≡ true) × (natAbs net ≤ 999999) ⌝ }
+        requires { ⌜ (tallyFit self ≡ true) × (natAbs net ≤ largestWeight) ⌝ }
         ensures { λ r. ⌜ r ≡ added self verdict net ⌝ }
     {
         let counted = self.counted(verdict);
@@ -173,7 +191,7 @@ impl Tally {
 
     // The first graded verdict sets largest and smallest, so they come before n.
     fn weighed(mut self, net: i64) -> Tally
-        requires { ⌜ (Bounded self) × (natAbs net ≤ 999999) ⌝ }
+        requires { ⌜ (Bounded self) × (natAbs net ≤ largestWeight) ⌝ }
         ensures { λ r. ⌜ r ≡ weighedWith self net ⌝ }
     {
         let largest = self.larger(net);

@@ -1,42 +1,58 @@
 // What a cancel puts back, and how a verdict and its cancel change the lent tallies.
 ghost use mathlib.Core.Path.{_≡_};
-ghost use Rattle.undo.specs.Undo.{noChance, undoFit, keptOf, notedIn, putBack};
-use tallies::Lent;
-use tally::Noted;
+ghost use Rattle.undo.specs.Undo.{nothing, kept, noChance, undoFit, keptOf, notedIn, putBack};
 use tally::Tally;
 
-// Nothing, or a code's tally as before the last verdict.
-pub enum Undo {
-    Nothing,
-    Kept(Tally),
+// The chance to cancel: 1 with a code's tally as before the last verdict, or 0. A number, not a bool or an enum: what the
+// compiler copies behind those costs time on every line of text.
+pub struct Undo {
+    pub chance: u64,
+    pub tally: Tally,
 }
 
 impl Undo {
+    pub fn nothing() -> Undo
+        ensures { λ r. ⌜ r ≡ nothing ⌝ }
+    {
+        Undo {
+            chance: 0,
+            tally: Tally::empty(),
+        }
+    }
+
+    fn kept(t: Tally) -> Undo
+        ensures { λ r. ⌜ r ≡ kept t ⌝ }
+    {
+        Undo {
+            chance: 1,
+            tally: t,
+        }
+    }
+
     pub fn is_nothing(self) -> bool
         ensures { λ r. ⌜ r ≡ noChance self ⌝ }
     {
-        match self {
-            Undo::Nothing => true,
-            Undo::Kept(_) => false,
-        }
+        self.chance == 0
     }
 
     pub fn fit(self) -> bool
         ensures { λ r. ⌜ r ≡ undoFit self ⌝ }
     {
-        match self {
-            Undo::Nothing => true,
-            Undo::Kept(t) => t.fit(),
+        if self.chance == 0 {
+            return true;
         }
+        let t = self.tally;
+        t.fit()
     }
 
     // A cancel: the kept tally goes back to code's part.
     pub fn put_back(self, tallies: &mut [i64], code: u64)
         ensures { λ _. ⌜ now (tallies .exit) ≡ putBack (now (tallies .entry)) code self ⌝ }
     {
-        let Undo::Kept(t) = self else {
+        if self.chance == 0 {
             return;
-        };
+        }
+        let t = self.tally;
         tallies::write(tallies, code, t);
     }
 }
@@ -47,14 +63,15 @@ pub fn note(tallies: &mut [i64], code: u64, verdict: u64, net: i64) -> Undo
     ensures kept { λ r. ⌜ r ≡ keptOf (now (tallies .entry)) code verdict net ⌝ }
     ensures memory { λ r. ⌜ now (tallies .exit) ≡ notedIn (now (tallies .entry)) code verdict net ⌝ }
 {
-    let lent = tallies::read(&*tallies, code);
-    let Lent::Fit(before) = lent else {
-        return Undo::Nothing;
-    };
+    if !tallies::fit_at(&*tallies, code) {
+        return Undo::nothing();
+    }
+    let before = tallies::read(&*tallies, code);
     let noted = before.noted(verdict, net);
-    let Noted::Tallied(next) = noted else {
-        return Undo::Nothing;
-    };
+    if noted.taken == 0 {
+        return Undo::nothing();
+    }
+    let next = noted.tally;
     tallies::write(tallies, code, next);
-    Undo::Kept(before)
+    Undo::kept(before)
 }

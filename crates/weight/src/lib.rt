@@ -5,6 +5,9 @@ ghost use lib.IntN.{natAbs};
 ghost use Rattle.weight.specs.Weight.{isWeight};
 ghost use Rattle.weight.specs.Mean.{nearest, withSign, meanOf};
 
+// The largest weight, in divisions.
+pub const LARGEST: u64 = 999_999;
+
 // A figure of the sheet, which may be none.
 pub enum Figure {
     None,
@@ -22,10 +25,11 @@ pub fn size(x: i64) -> u64
     (y as u64) + 1
 }
 
+// -LARGEST to LARGEST
 pub fn is_weight(x: i64) -> bool
     ensures { λ r. ⌜ r ≡ isWeight x ⌝ }
 {
-    size(x) <= 999999
+    size(x) <= LARGEST
 }
 
 // The sum over n to the nearest, halves away from zero; none at n = 0.

@@ -6,15 +6,15 @@ use Prim.Native.Nat.{ℕ}
 use lib.Dec.{eqb}
 use Rattle.laws.proofs.Tests.{by-cases}
 use Rattle.event.specs.declared.Event.{Event}
-use Rattle.book.specs.Run.{World, after, runFrom, run, freshWorld}
-use Rattle.book.proofs.Every.{claim}
+use Rattle.claim.specs.Run.{World, after, runFrom, run, freshWorld}
+use Rattle.claim.proofs.Every.{claim}
 use Rattle.text.specs.Read.{readLine}
 use Rattle.text.specs.declared.Read.{Read}
 use Rattle.text.specs.declared.Read.the-variants as read
-use Rattle.controller.specs.Serve.{lineAfter, recordsAfter, talliesAfter}
+use Rattle.controller.specs.Serve.{stateAfter}
 use Rattle.controller.specs.Input.{holding, tookAll}
 use Rattle.controller.proofs.Taking.{took-lf, took-other, took-none}
-use Rattle.wording.specs.Claim.{eventIn, eventsIn, HoldsWorld, TextClaim}
+use Rattle.wording.specs.Claim.{eventIn, eventsIn, TextClaim}
 
 events-lf : (text : List ℕ) (b : ℕ) (s : List ℕ) → eqb b 10 ≡ true → eventsIn text (b ∷ s) ≡ eventIn (readLine text) ++ eventsIn [] s
 unfolding eventsIn
@@ -38,22 +38,22 @@ ran-one w e es = refl
 
 -- what holds of the bytes s, whatever world they come to
 abbrev Runs : List ℕ → List ℕ → World → Type 0
-Runs text s w = HoldsWorld (tookAll (holding (w .line) (w .settings) (w .tallies) text) s) (runFrom w (eventsIn text s))
+Runs text s w = tookAll (holding (w .state) text) s .state ≡ runFrom w (eventsIn text s) .state
 
 -- a line of text that says r, and the bytes behind it
 line-runs : (w : World) (s : List ℕ) (r : Read) → ((k : World) → Runs [] s k)
-    → HoldsWorld (tookAll (holding (lineAfter (w .line) (w .settings) (w .tallies) r) (recordsAfter (w .line) (w .settings) (w .tallies) r) (talliesAfter (w .line) (w .settings) (w .tallies) r) []) s) (runFrom w (eventIn r ++ eventsIn [] s))
-unfolding lineAfter recordsAfter talliesAfter
+    → tookAll (holding (stateAfter (w .state) r) []) s .state ≡ runFrom w (eventIn r ++ eventsIn [] s) .state
+unfolding stateAfter
 line-runs w s (read.Event e) rest = rw (ran-one w e (eventsIn [] s)) (rest (after w e))
 line-runs w s (read.Report code) rest = rest w
 line-runs w s read.Other rest = rest w
 
 runs : (text s : List ℕ) (w : World) → Runs text s w
-runs text [] w = rw (took-none (holding (w .line) (w .settings) (w .tallies) text), events-none text, ran-none w) (record { line = refl; records = refl; tallies = refl })
+runs text [] w = rw (took-none (holding (w .state) text), events-none text, ran-none w) refl
 runs text (b ∷ s) w =
     by-cases (eqb b 10)
-    (λ y. rw (took-lf (w .line) (w .settings) (w .tallies) text b s y, events-lf text b s y) (line-runs w s (readLine text) (runs [] s)))
-    (λ n. rw (took-other (w .line) (w .settings) (w .tallies) text b s n, events-other text b s n) (runs (text ++ b ∷ []) s w))
+    (λ y. rw (took-lf (w .state) text b s y, events-lf text b s y) (line-runs w s (readLine text) (runs [] s)))
+    (λ n. rw (took-other (w .state) text b s n, events-other text b s n) (runs (text ++ b ∷ []) s w))
 
 pub text-claim : TextClaim
 unfolding run

@@ -6,12 +6,12 @@ use lib.Dec.{eqb}
 use Rattle.laws.specs.Choice.{if_then_else_}
 use Rattle.decimal.specs.Bytes.{lf}
 use Rattle.event.specs.declared.Event.{Event}
-use Rattle.book.specs.Run.{World, run}
-use Rattle.book.specs.Claim.{Stands}
+use Rattle.claim.specs.Run.{run}
+use Rattle.claim.specs.Claim.{Stands}
 use Rattle.text.specs.Read.{readLine}
 use Rattle.text.specs.declared.Read.{Read}
 use Rattle.text.specs.declared.Read.the-variants as read
-use Rattle.controller.specs.Input.{Progress, freshProgress, tookAll}
+use Rattle.controller.specs.Input.{freshProgress, tookAll}
 
 -- the event that a line of text says, if it says one
 abbrev pub eventIn : Read → List Event
@@ -24,12 +24,6 @@ unfoldable pub eventsIn : List ℕ → List ℕ → List Event
 eventsIn text [] = []
 eventsIn text (b ∷ s) = if eqb b lf then eventIn (readLine text) ++ eventsIn [] s else eventsIn (text ++ b ∷ []) s
 
--- the line and the memories are those of a world
-pub record HoldsWorld (p : Progress) (w : World) : Type 0 where
-  pub line : p .line ≡ w .line
-  pub records : p .records ≡ w .settings
-  pub tallies : p .tallies ≡ w .tallies
-
 pub record TextClaim : Type 0 where
-  pub held : (input : List ℕ) → HoldsWorld (tookAll freshProgress input) (run (eventsIn [] input))
+  pub held : (input : List ℕ) → tookAll freshProgress input .state ≡ run (eventsIn [] input) .state
   pub stands : (input : List ℕ) → Stands (run (eventsIn [] input))

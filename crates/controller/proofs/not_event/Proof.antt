@@ -32,6 +32,7 @@ use denote.Ref.{RefT}
 use denote.Slice.{sliceVal, MutSlice, ShrSlice, Room, finally, slice-vals, mut-slice-tells, shr-slice-tells, shr-slice-copy}
 use denote.Signature.{plain}
 use denote.Steps.{owned, nothing}
+use denote.Struct.Laws as LL
 use denote.Enum.Laws as EL
 use denote.Triple.Entry.{Vals, onEntry}
 use denote.Triple.Spec.{Meets, tripleOf}
@@ -160,7 +161,7 @@ module _ {M : Type 1} (𝓤 : URA M) (H : Heap 𝓤) (A : Atoms 𝓤) (W : Given
                     use1 W (later (given (w ≡ P′.lowered (reportOn ys ts (c .0))) (given (Is P.the-row (reportOn ys ts (c .0)) (P′.lowered (reportOn ys ts (c .0)) ∷ [])) (‵ (flft κ q) ⊛ ‵ (flft κ₁ q₁))))) (ended-reports 𝓤 H A mem run W κ κ₁ q q₁ b o (length ys) γ ys b₁ o₁ (length ts) γ₁ ts (c .0) (code-fits said (c .0) (c .1 .is) said-is) w) $
                     await ! tt $ learn ! (λ e. learn ! (λ rep-is. split ! $
                     -- [κ's token; κ₁'s token; tallies; records; the output; κ₂'s token; _12; …]
-                    lands-at ! e $ land ! (from ! (stop !)) (init ! 16 refl (EL.lawful P.the-type P′.the-laws 𝓤 H A W tt .typed (reportOn ys ts (c .0)) _ rep-is .0)) $
+                    lands-at ! e $ land ! (from ! (stop !)) (init ! 16 refl (LL.lawful P.the-type P′.the-laws 𝓤 H A W .typed (reportOn ys ts (c .0)) _ rep-is .0)) $
                     -- `put_report`
                     assigns ! (addr ! (from ! (fld ! refl (hop ! (look-in ! 22 (sub ! 0 refl (whole !))) (stop !))))) (from ! (stop !)) (init ! 8 refl (tt, tt)) $
                     assigns ! (agg ! (and-then ! (load ! (from ! (stop !)) (look ! 8 refl)) (and-then ! (load ! (from ! (fld ! refl (stop !))) (look-in ! 22 (sub ! 1 refl (whole !)))) (no-more !)))) (from ! (stop !)) (init ! 6 refl (tt, (tt, (record { fits = room₂ .0 }, tt)))) $

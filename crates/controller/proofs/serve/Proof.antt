@@ -49,12 +49,13 @@ use Rattle.settings.specs.declared.Settings.{Settings}
 use Rattle.line.specs.declared.line.Line.{Line}
 use Rattle.event.specs.declared.Event.{Event}
 use Rattle.line.specs.Tallying.{stepIn}
-use Rattle.line.specs.Step.{stepOn, settingsAfter}
+use Rattle.line.specs.State.{state}
+use Rattle.line.specs.Step.{outOn, stepOn}
 use Rattle.line.specs.declared.step.Step.{Step}
 use Rattle.text.specs.declared.Read.{Read}
 use Rattle.text.specs.Read.{readLine}
 use Rattle.controller.specs.Answer.{Answer, replyAnswer, putAt, endAt}
-use Rattle.controller.specs.Serve.{otherAnswer, servedStep, answerTo, lineAfter}
+use Rattle.controller.specs.Serve.{otherAnswer, servedStep, answerTo, stateAfter}
 use Rattle.controller.specs.declared.Served.{Served}
 use Rattle.settings.proofs.Settings as T
 use Rattle.line.proofs.line.Line as L
@@ -112,20 +113,20 @@ served-is l nv end g fits = ((nv ∷ [], (vint w64 end ∷ [], tt)), (refl, (g, 
 
 -- ---- what was read, in local 7: its tag, and the event that goes to local 8. Proved apart, as the types are large
 abbrev ReadTy : Ty
-ReadTy = tyOf Mir.locals 7
+ReadTy = D′.mir
 
 abbrev EventTy : Ty
-EventTy = tyOf Mir.locals 8
+EventTy = E′.mir
 
 -- the answer, the line and what `apply` answers. A walk writes these types out where one is stored or read: they are dear to find
 abbrev ServedTy : Ty
-ServedTy = tyOf Mir.locals 0
+ServedTy = O′.mir
 
 abbrev LineTy : Ty
-LineTy = tyOf Mir.locals 1
+LineTy = L′.mir
 
 abbrev StepTy : Ty
-StepTy = tyOf Mir.locals 10
+StepTy = N′.mir
 
 event-field : Field ReadTy 0 0
 event-field = field-of ReadTy 0 0 tt
@@ -187,7 +188,7 @@ module _ {M : Type 1} (𝓤 : URA M) (H : Heap 𝓤) (A : Atoms 𝓤) (W : Given
   exits l w xs ws x after r-is m m₁ m₃ =
       qed W (‵ (finally R γ xs) ∷ ‵ (flft κ q) ∷ ‵ (finally i64 γ₁ ws) ∷ ‵ (flft κ₁ q₁) ∷ ‵ Text ∷ ‵ (flft κ₂ q₂) ∷ ‵ (finally u8 γ₃ (putAt pos x us)) ∷ ‵ (flft κ₃ q₃) ∷ []) ∵
       suffices ! _ (ends-at 𝓤 H A f.ended stayed (f.clauses 𝓤 H A mem run) W (((κ, (κ₁, (κ₂, (κ₃, tt)))), (q, (q₁, (q₂, (q₃, tt)))), tt, a, at), tt) w (record { line = l; at = endAt pos x us }) (tt, (xs, (ws, (tt, (putAt pos x us, (tt, tt)))))) (tt, (m, (m₁, (tt, (m₃, (tt, tt))))))) $
-      says4 ! (served (lineAfter line ys ts said) (answerTo line ys ts said) (after .line) (after .answer)) (after .stored) (after .tallied) (ap (λ (y : Answer). putAt pos y us) (after .answer)) $
+      says4 ! (served (stateAfter (state line ys ts) said .line) (answerTo (state line ys ts) said) (after .line) (after .answer)) (after .stored) (after .tallied) (ap (λ (y : Answer). putAt pos y us) (after .answer)) $
       nothing ! $ move ! (8 ∷ 0 ∷ []) $ join ! $ move ! (6 ∷ 0 ∷ []) $ join ! $ move ! (4 ∷ 0 ∷ []) $ join ! $ move ! (2 ∷ 0 ∷ []) $ join ! $ frame ! $
       -- [the last records; the last tallies; the text; the last output]
       nothing ! $ owned ! usize (Is usize) (uint-makes 𝓤 H A W w64) pos _ (refl, pos-fits) $ fjoin ! $ move ! (4 ∷ 0 ∷ []) $ fjoin ! $ move ! (3 ∷ 0 ∷ []) $ fjoin ! $ move ! (2 ∷ 0 ∷ []) $ fjoin ! $ move ! (1 ∷ 0 ∷ []) $ fjoin ! $
@@ -229,8 +230,8 @@ module _ {M : Type 1} (𝓤 : URA M) (H : Heap 𝓤) (A : Atoms 𝓤) (W : Given
               assigns ! (agg ! (and-then ! (load ! (from ! (stop !)) (look ! 14 refl)) (and-then ! (load ! (from ! (fld ! refl (stop !))) (look-in ! 46 (sub ! 1 refl (whole !)))) (no-more !)))) (from ! (stop !)) (init ! 12 refl (tt, (tt, (record { fits = room₁ .0 }, tt)))) $
               use4 W (raw (Apply 𝓤 H A mem run .pre (to-apply 𝓤 H A mem run W κ κ₁ q q₁ b o (length ys) γ ys b₁ o₁ (length ts) γ₁ ts line (v .0) lv (v .1 .value) line-is (v .1 .holds said-is)))) (asks-apply 𝓤 H A mem run W κ κ₁ q q₁ b o (length ys) γ ys b₁ o₁ (length ts) γ₁ ts line (v .0) lv (v .1 .value) line-is (v .1 .holds said-is)) $
               -- [what `apply` asks; the text; κ₂'s token; the output; κ₃'s; _22; …]
-              calls-at ! fm (Apply 𝓤 H A mem run) known-apply (to-apply 𝓤 H A mem run W κ κ₁ q q₁ b o (length ys) γ ys b₁ o₁ (length ts) γ₁ ts line (v .0) lv (v .1 .value) line-is (v .1 .holds said-is)) (and-then ! (load ! (from ! (stop !)) (look ! 47 {τ = LineTy} {v = lv} refl)) (and-then ! (load ! (from ! (stop !)) (look ! 13 refl)) (and-then ! (load ! (from ! (stop !)) (look ! 9 refl)) (and-then ! (load ! (from ! (stop !)) (look ! 33 {τ = EventTy} {v = v .1 .value} refl)) (no-more !))))) (λ w₁.
-              use1 W (later (some (λ (made : Step). some (λ (xs : List Settings). some (λ (ws : List ℤ). given (made ≡ stepIn (stepOn line ys ts (v .0))) (given (xs ≡ settingsAfter line ys ts (v .0)) (given (ws ≡ stepOn line ys ts (v .0) .tallies)
+              calls-at ! fm (Apply 𝓤 H A mem run) known-apply (to-apply 𝓤 H A mem run W κ κ₁ q q₁ b o (length ys) γ ys b₁ o₁ (length ts) γ₁ ts line (v .0) lv (v .1 .value) line-is (v .1 .holds said-is)) (and-then ! (load ! (from ! (stop !)) (look ! 47 refl)) (and-then ! (load ! (from ! (stop !)) (look ! 13 refl)) (and-then ! (load ! (from ! (stop !)) (look ! 9 refl)) (and-then ! (load ! (from ! (stop !)) (look ! 33 refl)) (no-more !))))) (λ w₁.
+              use1 W (later (some (λ (made : Step). some (λ (xs : List Settings). some (λ (ws : List ℤ). given (made ≡ stepIn (outOn (state line ys ts) (v .0))) (given (xs ≡ stepOn (state line ys ts) (v .0) .state .settings) (given (ws ≡ stepOn (state line ys ts) (v .0) .state .tallies)
               (given (Is N.the-row made (w₁ ∷ [])) (given (length xs ≡ length ys) (given (length ws ≡ length ts) (‵ (finally R γ xs) ⊛ (‵ (flft κ q) ⊛ (‵ (finally i64 γ₁ ws) ⊛ ‵ (flft κ₁ q₁))))))))))))))
               (ended-apply 𝓤 H A mem run W κ κ₁ q q₁ b o (length ys) γ ys b₁ o₁ (length ts) γ₁ ts line (v .0) lv (v .1 .value) line-is (v .1 .holds said-is) w₁) $ await ! tt $ pick ! (λ made. pick ! (λ xs. pick ! (λ ws. learn ! (λ d. learn ! (λ d₁. learn ! (λ d₂. learn ! (λ made-is. learn ! (λ m. learn ! (λ m₁.
               split ! $ move ! (1 ∷ []) $ split ! $ move ! (1 ∷ []) $ split ! $ move ! (3 ∷ 2 ∷ 0 ∷ 1 ∷ []) $
@@ -240,7 +241,7 @@ module _ {M : Type 1} (𝓤 : URA M) (H : Heap 𝓤) (A : Atoms 𝓤) (W : Given
               assigns ! (addr ! (from ! (fld ! refl (hop ! (look-in ! 42 (sub ! 0 refl (whole !))) (stop !))))) (from ! (stop !)) (init ! 10 refl (tt, tt)) $
               assigns ! (agg ! (and-then ! (load ! (from ! (stop !)) (look ! 10 refl)) (and-then ! (load ! (from ! (fld ! refl (stop !))) (look-in ! 42 (sub ! 1 refl (whole !)))) (no-more !)))) (from ! (stop !)) (init ! 8 refl (tt, (tt, (record { fits = room₃ .0 }, tt)))) $
               move ! (6 ∷ 7 ∷ []) $ use2 W (raw (Answered 𝓤 H A mem run .pre (to-answered 𝓤 H A mem run W κ₃ q₃ b₃ o₃ (length us) γ₃ us pos pos-fits made w₁ made-is))) (asks-answered 𝓤 H A mem run W κ₃ q₃ b₃ o₃ (length us) γ₃ us pos pos-fits made w₁ made-is) $
-              calls-at ! fm (Answered 𝓤 H A mem run) known-answered (to-answered 𝓤 H A mem run W κ₃ q₃ b₃ o₃ (length us) γ₃ us pos pos-fits made w₁ made-is) (and-then ! (load ! (from ! (stop !)) (look ! 31 {τ = StepTy} {v = w₁} refl)) (and-then ! (load ! (from ! (stop !)) (look ! 7 refl)) (and-then ! (load ! (from ! (stop !)) (look ! 39 refl)) (no-more !)))) (λ w₂.
+              calls-at ! fm (Answered 𝓤 H A mem run) known-answered (to-answered 𝓤 H A mem run W κ₃ q₃ b₃ o₃ (length us) γ₃ us pos pos-fits made w₁ made-is) (and-then ! (load ! (from ! (stop !)) (look ! 31 refl)) (and-then ! (load ! (from ! (stop !)) (look ! 7 refl)) (and-then ! (load ! (from ! (stop !)) (look ! 39 refl)) (no-more !)))) (λ w₂.
               use1 W (later (given (Is O.the-row (servedStep made us pos) (w₂ ∷ [])) (given (length (putAt pos (replyAnswer (made .reply)) us) ≡ length us) (‵ (finally u8 γ₃ (putAt pos (replyAnswer (made .reply)) us)) ⊛ ‵ (flft κ₃ q₃)))))
               (ended-answered 𝓤 H A mem run W κ₃ q₃ b₃ o₃ (length us) γ₃ us pos pos-fits made w₁ made-is w₂) $ await ! tt $ learn ! (λ r-is. learn ! (λ m₃. split ! $
               -- [the last output; κ₃'s token; the last records; κ's; the last tallies; κ₁'s; the text; κ₂'s; _22; …]

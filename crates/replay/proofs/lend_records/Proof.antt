@@ -55,7 +55,8 @@ use Rattle.event.specs.declared.Event.{Event}
 use Rattle.event.proofs.Event as E
 use Rattle.event.proofs.Event.Laws as E′
 use Rattle.line.specs.Tallying.{stepIn}
-use Rattle.line.specs.Step.{stepOn, settingsAfter}
+use Rattle.line.specs.State.{state}
+use Rattle.line.specs.Step.{outOn, stepOn}
 use Rattle.line.specs.declared.line.Line.{Line}
 use Rattle.line.specs.declared.step.Step.{Step}
 use Rattle.line.proofs.line.Line as L
@@ -125,13 +126,13 @@ module _ {M : Type 1} (𝓤 : URA M) (H : Heap 𝓤) (A : Atoms 𝓤) (W : Given
 
   -- what `apply` answers, the lists at exit, and what is answered
   abbrev out : Step
-  out = stepIn (stepOn line xs ts ev)
+  out = stepIn (outOn (state line xs ts) ev)
 
   abbrev zs : List Settings
-  zs = settingsAfter line xs ts ev
+  zs = stepOn (state line xs ts) ev .state .settings
 
   abbrev us : List ℤ
-  us = stepOn line xs ts ev .tallies
+  us = stepOn (state line xs ts) ev .state .tallies
 
   abbrev result : Step → Stepped
   result r = record { step = r; settings = zs }

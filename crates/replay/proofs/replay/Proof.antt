@@ -4,20 +4,22 @@ use mathlib.Core.Path.{_≡_, refl, ap, _∙_}
 use Prim.Native.Nat.{ℕ, _-_, _≤_}
 use native.Mathlib.Omega.{arith}
 use lib.IntN.{pos}
-use lib.ListN.{length, length-replicate}
+use lib.ListN.{length, take, length-replicate}
 use lib.Seq.{take-all}
-use Rattle.book.proofs.Every.{claim}
-use Rattle.book.specs.Run.{runFrom, run}
+use Rattle.claim.proofs.Every.{claim}
+use Rattle.claim.specs.Run.{runFrom, run}
+use Rattle.line.specs.State.{State}
 use Rattle.event.specs.declared.Event.the-variants.{Sample}
 use Rattle.event.specs.declared.Event.{Event}
 use Rattle.tallies.specs.Memory.{zeros}
-use Rattle.replay.proofs.Fold.{After, turned-after}
+use Rattle.replay.specs.Replay.{stateOf, plantIn}
+use Rattle.replay.proofs.Fold.{ran, turned-after}
 use Rattle.replay.proofs.replay.Statement.{statement}
 use Rattle.replay.proofs.replay.Tie as tie
 
 abbrev Inv-loop : tie.InvT-loop
 Inv-loop tallies₀ events plant₀ i₀ tallies plant i =
-    (i ≤ 64) × (length events ≡ 64) × (length tallies ≡ length tallies₀) × After plant₀ tallies₀ events i plant tallies
+    (i ≤ 64) × (length events ≡ 64) × (length tallies ≡ length tallies₀) × (stateOf plant tallies ≡ ran (stateOf plant₀ tallies₀) (take i events) .state)
 
 abbrev μ-loop : tie.MeasureT-loop
 μ-loop tallies₀ events plant₀ i₀ tallies plant i = 64 - i
@@ -30,7 +32,7 @@ fresh-requires c κs = search needs
 
 loop-holds : tie.Need-loop-holds Inv-loop μ-loop
 unfolding runFrom
-loop-holds c = (omega arith, search needs, refl, record { plant = refl; tallies = refl })
+loop-holds c = (omega arith, search needs, refl, refl)
 
 mul-e : tie.Need-mul-e Inv-loop μ-loop
 mul-e c = omega arith
@@ -62,7 +64,7 @@ loop-again c =
       omega arith,
       l .inv .1,
       n ∙ l .inv .2,
-      turned-after plant₀ tallies₀ es (l .i) none (l .plant) (l .tallies) (l .inv .3) (omega arith) (t .result) (t .last .1 .0) (t .ensures .0) (t .ensures .1),
+      turned-after (stateOf plant₀ tallies₀) es (l .i) none (l .plant) (l .tallies) (l .inv .3) (omega arith) (t .result) (t .last .1 .0) (t .ensures .0) (t .ensures .1 .0),
     )
 
 length-zeros : (n : ℕ) → length (zeros n) ≡ n
@@ -82,7 +84,8 @@ returns c =
     let all = take-all (l .i) es (omega arith) in
     let fresh = c .before .before .fresh .ensures in
     let clear = c .before .before .before .before .clear .ensures in
-    (rw (all, fresh, clear) at (l .inv .3 .plant), (rw (all, fresh, clear) at (l .inv .3 .tallies), λ h. rw h (claim es)))
+    let is = rw (all, fresh, clear) at (l .inv .3) in
+    (ap plantIn is, (ap (λ (s : State). s .tallies) is, λ h. rw h (claim es)))
 
 pub replay-spec : {M : Type 1} → statement M
 replay-spec =

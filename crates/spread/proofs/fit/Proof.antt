@@ -1,54 +1,74 @@
--- `fit` meets its contract: each way by the tests that led to it.
-use mathlib.Core.Path.{_≡_, _∙_}
-use mathlib.Core.Bool.{and-eq-true-iff}
-use Prim.Native.Nat.{_*_, _≤_}
+-- `fit` is a fit tally with S² ≤ n·Q, which its bounds leave room for.
+use mathlib.Core.Path.{_≡_, sym, _∙_}
+use mathlib.Core.Bool.{true, false}
+use Prim.Native.Nat.{_*_}
 use native.Mathlib.Omega.{arith}
-use lib.Dec.{leb}
+use lib.IntN.{natAbs}
 use borrow.Author.Needs.{needs}
-use borrow.Author.Tests.{leb-true, le-leb, lt-leb}
+use borrow.Author.Tests.{not-true, not-false}
+use Rattle.laws.proofs.Signed.{back}
+use Rattle.tally.specs.Tally.{tallyFit}
+use Rattle.tally.specs.Steps.{Bounded}
+use Rattle.tally.proofs.Facts.{fit-tells}
 use Rattle.spread.specs.Wide.{value}
-use Rattle.spread.specs.Figures.{fitOf}
+use Rattle.spread.specs.Figures.{reportFit}
 use Rattle.spread.proofs.fit.Statement.{statement}
 use Rattle.spread.proofs.fit.Tie as tie
 
-sum-le : (c : tie.Then2) → c .before .before .args .s ≤ c .before .before .args .n * 999999
-sum-le c =
-    let a = c .before .before .args in
-    leb-true _ _ (and-eq-true-iff (leb (a .s) (a .n * 999999)) (leb (a .q) (a .n * 1000000000000)) .0 (c .if2 .taken) .0)
+fit-requires : tie.Need-fit-requires
+fit-requires c κs = search needs
 
 returns : tie.Need-returns
-unfolding fitOf
-returns c = simp (lt-leb (c .before .args .n) 999999 (c .if1 .taken))
+unfolding reportFit
+returns c =
+    let h : tallyFit (c .before .before .args .t) ≡ false = sym (c .before .fit .ensures) ∙ not-true _ (c .if1 .taken) in
+    rw h
 
-mul-if2 : tie.Need-mul-if2
-mul-if2 c = search needs
+fit-was : (c : tie.Else1) → tallyFit (c .before .before .args .t) ≡ true
+fit-was c = sym (c .before .fit .ensures) ∙ not-false _ (c .if1 .left)
 
-mul-if2-2 : tie.Need-mul-if2-2
-mul-if2-2 c = search needs
+bounds : (c : tie.Else1) → Bounded (c .before .before .args .t)
+bounds c = fit-tells (c .before .before .args .t) (fit-was c) .bounds
+
+size-requires : tie.Need-size-requires
+size-requires c κs = search needs
+
+-- the size of the sum
+size-is : (c : tie.After-size) → c .size .result ≡ natAbs (c .before .before .before .before .args .t .sum)
+size-is c =
+    let t = c .before .before .before .before .args .t in
+    rw (back (t .sum) (c .before .struct-told .given .1 .1 .1 .1 .1 .1 .1 .1 .1 .0 .1)) at (c .size .ensures)
 
 product-requires : tie.Need-product-requires
-product-requires c κs = omega (arith, sum-le c)
+product-requires c κs = omega (arith, size-is c, bounds (c .before .before))
 
 of-requires : tie.Need-of-requires
 of-requires c κs = search needs
 
 by-requires : tie.Need-by-requires
-by-requires c κs = search needs
+by-requires c κs = omega (arith, bounds (c .before .before .before .before))
 
 at-most-requires : tie.Need-at-most-requires
 at-most-requires c κs = search needs
 
 returns-2 : tie.Need-returns-2
-unfolding fitOf
+unfolding reportFit
 returns-2 c =
-    let a = c .before .before .before .before .before .before .args in
-    let e : value (c .before .by .result) ≡ a .n * a .q = rw (c .before .before .of .ensures .is) at (c .before .by .ensures .is) ∙ omega arith in
-    simp (le-leb _ _ (c .before .before .before .before .before .if1 .left), c .before .before .before .before .if2 .taken)
-    (rw (c .before .before .before .product .ensures .is, e) at (c .at-most .ensures))
-
-returns-3 : tie.Need-returns-3
-unfolding fitOf
-returns-3 c = simp (le-leb _ _ (c .before .if1 .left), c .if2 .left)
+    let z = c .before .before .before .before in
+    let t = z .before .before .before .before .args .t in
+    let e : value (c .before .by .result) ≡ t .n * t .squares = rw (c .before .before .of .ensures .is) at (c .before .by .ensures .is) ∙ omega arith in
+    rw (fit-was (z .before .before))
+    (rw (c .before .before .before .product .ensures .is, e, size-is z) at (c .at-most .ensures))
 
 pub fit-spec : {M : Type 1} → statement M
-fit-spec = tie.close (tie.spec returns mul-if2 mul-if2-2 product-requires of-requires by-requires at-most-requires returns-2 returns-3)
+fit-spec =
+    tie.close
+    (tie.spec
+    fit-requires
+    returns
+    size-requires
+    product-requires
+    of-requires
+    by-requires
+    at-most-requires
+    returns-2)

@@ -6,7 +6,7 @@ use Rattle.spread.proofs.sd.Statement.{statement}
 use Rattle.spread.proofs.sd.Tie as tie
 
 returns : tie.Need-returns
-returns c = let a = c .before .args in sym (sd-none (a .n) (a .q) (a .s) (c .if1 .taken))
+returns c = sym (sd-none (c .before .before .args .t) (c .if1 .taken))
 
 sub-over : tie.Need-sub-over
 sub-over c = search needs

@@ -43,6 +43,7 @@ use denote.Triple.Call.{calls-at}
 use denote.Triple.Table.{entered, cited}
 use denote.Triple.Walked.{says, Stays, stay-none-slice, gave-slice, stay-none, walkOf, goes-none-slice, goes-gave-slice, goes-none, Walks, ends-at, walked, walk-meets}
 use denote.Exit.{yes}
+use Rattle.line.specs.State.{state}
 use Rattle.settings.specs.declared.Settings.{Settings}
 use Rattle.line.specs.declared.line.Line.{Line}
 use Rattle.controller.specs.Input.{holding, tookAll}
@@ -141,7 +142,7 @@ module _ {M : Type 1} (𝓤 : URA M) (H : Heap 𝓤) (A : Atoms 𝓤) (W : Given
   Lasts = Unit {0} × (List Settings × (List ℤ × (Unit {0} × (List ℕ × Unit {0}))))
 
   -- ---- the exit
-  exits : (r : Block) (w : Val) (vs : List ℤ) (os : List ℕ) → Is B.the-row r (w ∷ []) → TookUpTo (tookAll (holding line xs ts []) inp) inp (r .line) (r .settings) vs (r .start) → length vs ≡ length ts → length os ≡ length us
+  exits : (r : Block) (w : Val) (vs : List ℤ) (os : List ℕ) → Is B.the-row r (w ∷ []) → TookUpTo (tookAll (holding (state line xs ts) []) inp) inp (r .line) (r .settings) vs (r .start) → length vs ≡ length ts → length os ≡ length us
       → ent 𝓤 (⋆ 𝓤 H A (‵ (finally i64 γ₁ vs) ∷ ‵ (flft κ₁ q₁) ∷ ‵ Input ∷ ‵ (flft κ₂ q₂) ∷ ‵ (finally u8 γ₃ os) ∷ ‵ (flft κ₃ q₃) ∷ [])) (Post w)
   exits r w vs os r-is h e e₁ =
       qed W (‵ (finally i64 γ₁ vs) ∷ ‵ (flft κ₁ q₁) ∷ ‵ Input ∷ ‵ (flft κ₂ q₂) ∷ ‵ (finally u8 γ₃ os) ∷ ‵ (flft κ₃ q₃) ∷ []) ∵
@@ -188,7 +189,7 @@ module _ {M : Type 1} (𝓤 : URA M) (H : Heap 𝓤) (A : Atoms 𝓤) (W : Given
         use8 W (raw (Lines 𝓤 H A mem run .pre (to-lines 𝓤 H A mem run W (ν ∷ []) κ₁ κ₂ κ₃ fullShare q₁ q₂ q₃ x w l₆ 0 100 δ xs b₁ o₁ (length ts) γ₁ ts b₂ o₂ (length inp) γ₂ inp b₃ o₃ (length us) γ₃ us x-is (begins .2)))) (asks-lines 𝓤 H A mem run W (ν ∷ []) κ₁ κ₂ κ₃ fullShare q₁ q₂ q₃ x w l₆ 0 100 δ xs b₁ o₁ (length ts) γ₁ ts b₂ o₂ (length inp) γ₂ inp b₃ o₃ (length us) γ₃ us x-is (begins .2)) $
         -- [what `serve_lines` asks; the input; the lender's part; _15; …]
         calls-at ! fm (Lines 𝓤 H A mem run) known-lines (to-lines 𝓤 H A mem run W (ν ∷ []) κ₁ κ₂ κ₃ fullShare q₁ q₂ q₃ x w l₆ 0 100 δ xs b₁ o₁ (length ts) γ₁ ts b₂ o₂ (length inp) γ₂ inp b₃ o₃ (length us) γ₃ us x-is (begins .2)) (and-then ! (load ! (from ! (stop !)) (look ! 19 refl)) (and-then ! (load ! (from ! (stop !)) (look ! 13 refl)) (and-then ! (load ! (from ! (stop !)) (look ! 9 refl)) (and-then ! (load ! (from ! (stop !)) (look ! 24 refl)) (and-then ! (load ! (from ! (stop !)) (look ! 5 refl)) (no-more !)))))) (λ w₁.
-        use1 W (later (some (λ (r : Session). some (λ (ws : Lasts). given (Is S.the-row r (w₁ ∷ [])) (given (TookUpTo (tookAll (holding (x .line) xs ts []) (drop-list (x .start) inp)) inp (r .line) (ws .1 .0) (ws .1 .1 .0) (r .start)) (given (length (ws .1 .0) ≡ length xs) (given (length (ws .1 .1 .0) ≡ length ts) (given (length (ws .1 .1 .1 .1 .0) ≡ length us)
+        use1 W (later (some (λ (r : Session). some (λ (ws : Lasts). given (Is S.the-row r (w₁ ∷ [])) (given (TookUpTo (tookAll (holding (state (x .line) xs ts) []) (drop-list (x .start) inp)) inp (r .line) (ws .1 .0) (ws .1 .1 .0) (r .start)) (given (length (ws .1 .0) ≡ length xs) (given (length (ws .1 .1 .0) ≡ length ts) (given (length (ws .1 .1 .1 .1 .0) ≡ length us)
         (‵ (finally R δ (ws .1 .0)) ⊛ (‵ (flft (ν ∷ []) fullShare) ⊛ (‵ (finally i64 γ₁ (ws .1 .1 .0)) ⊛ (‵ (flft κ₁ q₁) ⊛ (‵ (flft κ₂ q₂) ⊛ (‵ (finally u8 γ₃ (ws .1 .1 .1 .1 .0)) ⊛ ‵ (flft κ₃ q₃)))))))))))))))
         (ended-lines 𝓤 H A mem run W (ν ∷ []) κ₁ κ₂ κ₃ fullShare q₁ q₂ q₃ x w l₆ 0 100 δ xs b₁ o₁ (length ts) γ₁ ts b₂ o₂ (length inp) γ₂ inp b₃ o₃ (length us) γ₃ us x-is (begins .2) w₁) $ await ! tt $ pick ! (λ r. pick ! (λ ws. learn ! (λ r-is. learn ! (λ h. learn ! (λ same. learn ! (λ same₁. learn ! (λ same₃.
         split ! $ move ! (1 ∷ []) $ split ! $ move ! (1 ∷ []) $ split ! $ move ! (1 ∷ []) $ split ! $ move ! (1 ∷ []) $ split ! $ move ! (1 ∷ []) $ split ! $
@@ -210,9 +211,9 @@ module _ {M : Type 1} (𝓤 : URA M) (H : Heap 𝓤) (A : Atoms 𝓤) (W : Given
         keep ! (0 ∷ 1 ∷ 2 ∷ 3 ∷ 4 ∷ 5 ∷ []) $ by ! (exits y w₂ (ws .1 .1 .0) (ws .1 .1 .1 .1 .0) y-is (took x r y (ws .1 .0) (ws .1 .1 .0) begins h e) same₁ same₃))))))))))))))))))))))))))))))))))))
       where
         took : (x r : Session) (y : Block) (zs : List Settings) (vs : List ℤ) → Begins line inp x
-            → TookUpTo (tookAll (holding (x .line) xs ts []) (drop-list (x .start) inp)) inp (r .line) zs vs (r .start)
+            → TookUpTo (tookAll (holding (state (x .line) xs ts) []) (drop-list (x .start) inp)) inp (r .line) zs vs (r .start)
             → (y .line ≡ r .line) × (y .settings ≡ zs) × (y .start ≡ r .start)
-            → TookUpTo (tookAll (holding line xs ts []) inp) inp (y .line) (y .settings) vs (y .start)
+            → TookUpTo (tookAll (holding (state line xs ts) []) inp) inp (y .line) (y .settings) vs (y .start)
         took x r y zs vs b h e = rw (e .0, e .1, e .2) (h .0, h .1 ∙ rw (b .0, b .1) refl)
 
 module _ {M : Type 1} (𝓤 : URA M) (H : Heap 𝓤) (A : Atoms 𝓤) (W : Given 𝓤 H A) (mem : Memory → SProp 𝓤) (run : Routine → Fun 𝓤) where

@@ -51,6 +51,7 @@ use denote.Triple.Walked.{says, needs, Stays, stay-none-slice, stay-slice, stay-
 use denote.Exit.{yes}
 use borrow.Table.Elements.{at-byte}
 use borrow.Table.Copies.{Halved}
+use Rattle.line.specs.State.{state}
 use Rattle.settings.specs.declared.Settings.{Settings}
 use Rattle.controller.specs.declared.Served.{Served}
 use Rattle.line.specs.declared.line.Line.{Line}
@@ -123,7 +124,7 @@ pub record Turn (inp : List ℕ) (n n₁ n₃ : ℕ) (p : Progress) : Type 0 whe
   pub lv : Val
   pub whole : Whole at lv
   pub ends : Ends inp at
-  pub goal : tookAll (holding (at .line) ys ts []) (drop-list (at .start) inp) ≡ p
+  pub goal : tookAll (holding (state (at .line) ys ts) []) (drop-list (at .start) inp) ≡ p
   pub as-many : length ys ≡ n
   pub as-many₁ : length ts ≡ n₁
   pub as-many₃ : length us ≡ n₃
@@ -154,7 +155,7 @@ module _ {M : Type 1} (𝓤 : URA M) (H : Heap 𝓤) (A : Atoms 𝓤) (W : Given
 
   -- what taking all the lines gives
   abbrev all : Progress
-  all = tookAll (holding (session .line) ys ts []) (drop-list (session .start) inp)
+  all = tookAll (holding (state (session .line) ys ts) []) (drop-list (session .start) inp)
 
   abbrev State : Type 0
   State = Turn inp (length ys) (length ts) (length us) all
@@ -289,7 +290,7 @@ module _ {M : Type 1} (𝓤 : URA M) (H : Heap 𝓤) (A : Atoms 𝓤) (W : Given
 
         turned : (t : State) → ltb (t .at .end) (length inp) ≡ true → (r : Session) (zs : List Settings) (vs : List ℤ) (k : Line)
             → Answers (t .at .line) (t .ys) (t .ts) (take (t .at .end - t .at .start) (drop-list (t .at .start) inp)) k zs vs → Follows k inp (t .at .end) r
-            → tookAll (holding (r .line) zs vs []) (drop-list (r .start) inp) ≡ all
+            → tookAll (holding (state (r .line) zs vs) []) (drop-list (r .start) inp) ≡ all
         turned t y r zs vs k a f = session-goes inp (t .at) (t .ends) (less t y) (t .ys) (t .ts) r zs vs (f .0 ∙ a .0, a .1, a .2) (f .1 (less t y)) ∙ t .goal
 
 module _ {M : Type 1} (𝓤 : URA M) (H : Heap 𝓤) (A : Atoms 𝓤) (W : Given 𝓤 H A) (mem : Memory → SProp 𝓤) (run : Routine → Fun 𝓤) where

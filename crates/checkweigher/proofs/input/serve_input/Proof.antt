@@ -6,6 +6,7 @@ use Prim.Native.Nat.{ℕ, _+_, _-_, _≤_}
 use native.Mathlib.Omega.{arith}
 use lib.ListN.{length, take, drop}
 use lib.Seq.{take-add}
+use Rattle.line.specs.State.{state}
 use Rattle.tallies.specs.Memory.{zeros}
 use Rattle.controller.specs.Input.{holding, tookAll}
 use Rattle.checkweigher.specs.Reads.{cut, Reached}
@@ -90,7 +91,7 @@ loop-again c =
       search needs,
       search needs,
       reached-on (l .line) (l .settings) (l .tallies) (take (l .held) (l .input)) (l .inv .4) new _ _ _ _
-          (served .ensures .2 ∙ ap (λ (t : List ℕ). cut (tookAll (holding (l .line) (l .settings) (l .tallies) []) t)) parts),
+          (served .ensures .2 ∙ ap (λ (t : List ℕ). cut (tookAll (holding (state (l .line) (l .settings) (l .tallies)) []) t)) parts),
     )
 
 returns-2 : tie.Need-returns-2 Inv-loop μ-loop

@@ -30,7 +30,6 @@ use denote.Slice.{sliceVal, ShrSlice, Room, slice-vals, shr-slice-tells, shr-sli
 use denote.Signature.{plain}
 use denote.Steps.{only, owned, facts, heard, nothing}
 use denote.Struct.Laws as LL
-use denote.Enum.Laws as EL
 use denote.Triple.Entry.{Vals, onEntry}
 use denote.Triple.Spec.{Meets, tripleOf}
 use denote.Triple.Statement.{Contract, Triple}
@@ -67,6 +66,10 @@ stayed = (stay-none-slice (0 ∷ []) tt (plain (λ _. R)) yes, (stay-none-slice 
 
 abbrev Sheet : {M : Type 1} (𝓤 : URA M) (H : Heap 𝓤) (A : Atoms 𝓤) (mem : Memory → SProp 𝓤) (run : Routine → Fun 𝓤) → Contract 𝓤
 Sheet 𝓤 H A mem run = tripleOf 𝓤 H A sheet.signature (sheet.spec 𝓤 H A mem run)
+
+-- an answer's machine value
+abbrev sent : Report → Val
+sent r = LL.val P.the-type P′.the-laws r
 
 module _ {M : Type 1} (𝓤 : URA M) (H : Heap 𝓤) (A : Atoms 𝓤) (W : Given 𝓤 H A) (mem : Memory → SProp 𝓤) (run : Routine → Fun 𝓤) (κ κ₁ : Lft) (q q₁ : Share)
     (b o : ℕ) (γ : GName) (ys : List Settings) (b₁ o₁ : ℕ) (γ₁ : GName) (ts : List ℤ) (i : ℕ) (room : Room R (length ys)) (room₁ : Room i64 (length ts)) (i-fits : i < 2 ^ 64) where
@@ -137,22 +140,22 @@ module _ {M : Type 1} (𝓤 : URA M) (H : Heap 𝓤) (A : Atoms 𝓤) (W : Given
       nothing ! $ owned ! u64 (Is u64) (uint-makes 𝓤 H A W w64) i _ (refl, i-fits) $ fjoin ! $ move ! (2 ∷ 0 ∷ []) $ fjoin ! $
       owned ! R (Is R) (LL.makes T.the-type T′.the-plain 𝓤 H A) cur (mach cur ∷ []) cur-is $ fjoin ! $ owned ! u64 (Is u64) (uint-makes 𝓤 H A W w64) (length ys) _ (refl, room .0) $ fjoin ! $ move ! (1 ∷ 0 ∷ []) $ join ! $ frame ! $ done !
 
-  sheet-ended : (w : Val) → ent 𝓤 (Sheet 𝓤 H A mem run .post to-sheet w) (H .⇛ (guard 𝓤 (w ≡ P′.lowered rep) (guard 𝓤 (Is P.the-row rep (P′.lowered rep ∷ [])) (A .lft κ₁ q₁))))
+  sheet-ended : (w : Val) → ent 𝓤 (Sheet 𝓤 H A mem run .post to-sheet w) (H .⇛ (guard 𝓤 (w ≡ sent rep) (guard 𝓤 (Is P.the-row rep (sent rep ∷ [])) (A .lft κ₁ q₁))))
   sheet-ended w =
       qed W (raw (Sheet 𝓤 H A mem run .post to-sheet w) ∷ []) ∵ updating ! $
       use1 W (later (some (λ (r : Report). ((‵ (flft κ₁ q₁) ⊛ ‵ ftrue) ⊛ ‵ (P.the-row .own r (w ∷ []))) ⊛ raw (ensured 𝓤 H A sheet.ended (sheet.clauses 𝓤 H A mem run) (κ₁, tt) args tt r)))) (id⊢ 𝓤 _) $ await ! tt $ pick ! (λ r.
       split ! $ move ! (1 ∷ []) $ use1 W (raw (fact 𝓤 (r ≡ rep))) (exE 𝓤 _ (λ ws. snd∗ 𝓤 (sem 𝓤 H A (lasts sheet.ended (κ₁, tt) args ws)) (fact 𝓤 (r ≡ rep)))) $ heard ! (r ≡ rep) (λ e.
       split ! $ move ! (1 ∷ []) $ facts ! P.the-row (Is P.the-row) (shows 𝓤 H A P.the-row) r (w ∷ []) (λ is. split ! $ at-once ! $
-      check ! (ap only (P′.lowers .val-is r (w ∷ []) is) ∙ ap (λ (z : Report). P′.lowered z) e) $ check ! (subst (λ (z : Report). Is P.the-row z (P′.lowered z ∷ [])) e (subst (Is P.the-row r) (P′.lowers .val-is r (w ∷ []) is) is)) $ keep ! (0 ∷ []) $ done !)))
+      check ! (ap only (LL.tells P.the-type P′.the-laws r (w ∷ []) is) ∙ ap sent e) $ check ! (subst (λ (z : Report). Is P.the-row z (sent z ∷ [])) e (subst (Is P.the-row r) (LL.tells P.the-type P′.the-laws r (w ∷ []) is) is)) $ keep ! (0 ∷ []) $ done !)))
 
   -- ---- the exit
-  exits : Is P.the-row rep (P′.lowered rep ∷ []) → ent 𝓤 (⋆ 𝓤 H A (‵ Own ∷ ‵ (flft κ q) ∷ ‵ Own₁ ∷ ‵ (flft κ₁ q₁) ∷ [])) (Post (P′.lowered rep))
+  exits : Is P.the-row rep (sent rep ∷ []) → ent 𝓤 (⋆ 𝓤 H A (‵ Own ∷ ‵ (flft κ q) ∷ ‵ Own₁ ∷ ‵ (flft κ₁ q₁) ∷ [])) (Post (sent rep))
   exits r-is =
       qed W (‵ Own ∷ ‵ (flft κ q) ∷ ‵ Own₁ ∷ ‵ (flft κ₁ q₁) ∷ []) ∵
-      suffices ! _ (ends-at 𝓤 H A f.ended stayed (f.clauses 𝓤 H A mem run) W (((κ, (κ₁, tt)), (q, (q₁, tt)), tt, a, at), tt) (P′.lowered rep) rep (tt, (tt, (tt, tt))) (tt, (tt, (tt, tt)))) $ says ! refl $
+      suffices ! _ (ends-at 𝓤 H A f.ended stayed (f.clauses 𝓤 H A mem run) W (((κ, (κ₁, tt)), (q, (q₁, tt)), tt, a, at), tt) (sent rep) rep (tt, (tt, (tt, tt))) (tt, (tt, (tt, tt)))) $ says ! refl $
       nothing ! $ move ! (4 ∷ 0 ∷ []) $ join ! $ move ! (2 ∷ 0 ∷ []) $ join ! $ frame ! $
       nothing ! $ owned ! u64 (Is u64) (uint-makes 𝓤 H A W w64) i _ (refl, i-fits) $ fjoin ! $ move ! (2 ∷ 0 ∷ []) $ fjoin ! $ move ! (1 ∷ 0 ∷ []) $ fjoin ! $ frame ! $
-      owned ! P.the-row (Is P.the-row) (EL.makes P.the-type P′.the-plain 𝓤 H A) rep (P′.lowered rep ∷ []) r-is $ done !
+      owned ! P.the-row (Is P.the-row) (LL.makes P.the-type P′.the-plain 𝓤 H A) rep (sent rep ∷ []) r-is $ done !
 
   module _ (C : Calls 𝓤 H) (Λ : Loops 𝓤 H) (fm : FmC 𝓤 H (W .laws) C) (known-get : Triple 𝓤 (C #get) (Get 𝓤 H A mem run)) (known-sheet : Triple 𝓤 (C #sheet) (Sheet 𝓤 H A mem run)) where
     walk : ent 𝓤 (onEntry 𝓤 H A f.signature (κ, (κ₁, tt)) (q, (q₁, tt)) a at) (WpFn 𝓤 H C Λ code.function (s ∷ s₁ ∷ vint w64 i ∷ []) Post)
@@ -174,8 +177,8 @@ module _ {M : Type 1} (𝓤 : URA M) (H : Heap 𝓤) (A : Atoms 𝓤) (W : Given
         move ! (2 ∷ []) $ use1 W (‵ Own₁ ⊛ ‵ Own₁) (shr-slice-copy 𝓤 H A W (named 1) κ₁ i64 .twice t (s₁ ∷ [])) $ split ! $ move ! (0 ∷ 4 ∷ []) $ use2 W (raw (Sheet 𝓤 H A mem run .pre to-sheet)) (sheet-asks cur-is) $
         -- [what `report_on` asks; tallies; κ's token; records; _6; …]
         calls-at ! fm (Sheet 𝓤 H A mem run) known-sheet to-sheet (and-then ! (load ! (from ! (stop !)) (look ! 4 refl)) (and-then ! (load ! (from ! (stop !)) (look ! 8 refl)) (and-then ! (load ! (from ! (stop !)) (look ! 12 refl)) (and-then ! (load ! (from ! (stop !)) (look ! 10 refl)) (no-more !))))) (λ w₁.
-        use1 W (later (given (w₁ ≡ P′.lowered rep) (given (Is P.the-row rep (P′.lowered rep ∷ [])) (‵ (flft κ₁ q₁))))) (sheet-ended w₁) $ await ! tt $ learn ! (λ e₁. learn ! (λ rep-is.
-        lands-at ! e₁ $ land ! (from ! (stop !)) (init ! 16 refl (EL.lawful P.the-type P′.the-laws 𝓤 H A W tt .typed rep _ rep-is .0)) $
+        use1 W (later (given (w₁ ≡ sent rep) (given (Is P.the-row rep (sent rep ∷ [])) (‵ (flft κ₁ q₁))))) (sheet-ended w₁) $ await ! tt $ learn ! (λ e₁. learn ! (λ rep-is.
+        lands-at ! e₁ $ land ! (from ! (stop !)) (init ! 16 refl (LL.lawful P.the-type P′.the-laws 𝓤 H A W .typed rep _ rep-is .0)) $
         returns ! (look ! 16 refl) $ forget ! 4 refl $ forget ! 6 refl $ forget ! 8 refl $ forget ! 10 refl $ forget ! 12 refl $ forget ! 14 refl $ forget ! 16 refl $
         move ! (16 ∷ 17 ∷ []) $ free1 ! $ move ! (14 ∷ 15 ∷ []) $ free1 ! $ move ! (12 ∷ 13 ∷ []) $ free1 ! $ move ! (10 ∷ 11 ∷ []) $ free1 ! $ move ! (8 ∷ 9 ∷ []) $ free1 ! $ move ! (6 ∷ 7 ∷ []) $ free1 ! $ move ! (4 ∷ 5 ∷ []) $ free1 ! $ free0 ! $
         -- [κ₁'s token; tallies; κ's token; records]

@@ -5,12 +5,13 @@ use mir.Facts.{toZ-ofZ}
 use Rattle.weight.specs.Mean.{meanOf}
 use Rattle.laws.proofs.Signed.{back}
 use Rattle.sheet.specs.Sheet.{sheetOf}
-use Rattle.sheet.proofs.Facts.{fit-facts, mean-within, deviation-is}
+use Rattle.spread.proofs.Tallies.{fit-facts}
+use Rattle.sheet.proofs.Facts.{mean-within, deviation-is}
 use Rattle.sheet.proofs.sheet.sheet_of.Statement.{statement}
 use Rattle.sheet.proofs.sheet.sheet_of.Tie as tie
 
 total-of-requires : tie.Need-total-of-requires
-total-of-requires c κs = fit-facts (c .args .t) (c .pre .0) .verdicts
+total-of-requires c κs = fit-facts (c .args .t) (c .pre .0) .tally .verdicts
 
 mean-of-requires : tie.Need-mean-of-requires
 mean-of-requires c κs = search needs
@@ -21,11 +22,8 @@ mean-is c =
     let t = c .before .before .before .args .t in
     rw (back (t .sum) (c .before .struct-told .given .1 .1 .1 .1 .1 .1 .1 .1 .1 .0 .1)) at (c .mean-of .ensures)
 
-size-requires : tie.Need-size-requires
-size-requires c κs = search needs
-
-sub-t6 : tie.Need-sub-t6
-sub-t6 c = search needs
+sub-t5 : tie.Need-sub-t5
+sub-t5 c = search needs
 
 unless-none-requires : tie.Need-unless-none-requires
 unless-none-requires c κs = search needs
@@ -35,7 +33,7 @@ unless-none-requires-2 c κs = search needs
 
 deviation-of-requires : tie.Need-deviation-of-requires
 deviation-of-requires c κs =
-    let m = c .before .before .before .before .before .before .before in
+    let m = c .before .before .before .before .before in
     let s = m .before .before .before in
     (rw (mean-is m) (mean-within (s .args .t) (s .pre .0)), rw (toZ-ofZ (s .fits .target)) (s .pre .1))
 
@@ -49,15 +47,13 @@ returns : tie.Need-returns
 unfolding sheetOf
 returns c =
     let d = c .before .before .before in
-    let z = d .before .before .before .before .before .before in
-    let m = z .before .before in
+    let m = d .before .before .before .before .before .before in
     let s = m .before .before .before in
     let t = s .args .t in
-    let g = c .struct-told5 .given in
+    let g = c .struct-told4 .given in
     rw (
       c .before .sdp .ensures,
       c .before .before .sd .ensures,
-      z .size .ensures,
       d .deviation-of .ensures,
       d .before .unless-none2 .ensures,
       d .before .before .before .unless-none .ensures,
@@ -76,8 +72,7 @@ sheet-of-spec =
     (tie.spec
     total-of-requires
     mean-of-requires
-    size-requires
-    sub-t6
+    sub-t5
     unless-none-requires
     unless-none-requires-2
     deviation-of-requires

@@ -1,25 +1,20 @@
 -- `fit` tests a kept tally. Assumes nothing.
 use borrow.Author.Needs.{needs}
+use borrow.Author.Tests.{eq-eqb, ne-eqb}
 use Rattle.undo.specs.Undo.{undoFit}
 use Rattle.undo.proofs.Undo.fit.Statement.{statement}
 use Rattle.undo.proofs.Undo.fit.Tie as tie
 
-enum-told : tie.Need-enum-told
-enum-told c = search needs
-
-enum-known-self : tie.Need-enum-known-self
-enum-known-self c = search needs
+returns : tie.Need-returns
+unfolding undoFit
+returns c = rw (eq-eqb _ _ (c .if1 .taken))
 
 fit-requires : tie.Need-fit-requires
 fit-requires c κs = search needs
 
-returns : tie.Need-returns
-unfolding undoFit
-returns c = simp (c .enum-told .given .1)
-
 returns-2 : tie.Need-returns-2
 unfolding undoFit
-returns-2 c = simp (c .fit .ensures, c .before .before .self .given .1)
+returns-2 c = rw (ne-eqb _ _ (c .before .before .if1 .left)) (c .fit .ensures)
 
 pub fit-spec : {M : Type 1} → statement M
-fit-spec = tie.close (tie.spec enum-told enum-known-self fit-requires returns returns-2)
+fit-spec = tie.close (tie.spec returns fit-requires returns-2)

@@ -23,4 +23,5 @@ unfolding recorded
 returns-2 c = rw (c .before .if1 .left) (simp (c .untallied .ensures), refl)
 
 pub recorded-spec : {M : Type 1} → statement M
-recorded-spec = tie.close (tie.spec noted-requires same-length returns untallied-requires returns-2)
+recorded-spec =
+    tie.close (tie.spec noted-requires same-length returns untallied-requires returns-2)

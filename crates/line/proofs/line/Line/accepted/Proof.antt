@@ -1,7 +1,7 @@
 -- `accepted` gives each kind of event to its method, which finds what it asks for in the tests that were passed. Assumes nothing.
 use borrow.Author.Needs.{needs}
 use mathlib.Core.Path.{refl}
-use Rattle.line.proofs.Accepted.{accepted-tells, sample-given, cancel-given, clear-code-given, clear-all-given}
+use Rattle.line.proofs.Accepted.{accepted-tells, sample-given}
 use Rattle.line.specs.Step.{accepted}
 use Rattle.line.proofs.line.Line.accepted.Statement.{statement}
 use Rattle.line.proofs.line.Line.accepted.Tie as tie
@@ -43,28 +43,19 @@ enum-told-4 : tie.Need-enum-told-4
 enum-told-4 c = search needs
 
 cancel-requires : tie.Need-cancel-requires
-cancel-requires c κs =
-    let s = c .before .before .before in
-    let w = c .before .enum-told4 .given in
-    cancel-given (s .args .self) (s .args .count) (s .args .active) (s .args .tallies .now) (rw (w .1) at (accepted-tells (s .args .self) (s .args .count) (s .args .active) (s .args .tallies .now) (s .args .e) (s .pre)))
+cancel-requires c κs = search needs
 
 enum-known-e-3 : tie.Need-enum-known-e-3
 enum-known-e-3 c = search needs
 
 clear-code-requires : tie.Need-clear-code-requires
-clear-code-requires c κs =
-    let s = c .before .before .before .before in
-    let w = c .before .before .e3 .given in
-    clear-code-given (s .args .self) (s .args .count) (s .args .active) (s .args .tallies .now) (w .0 .0) (rw (w .1) at (accepted-tells (s .args .self) (s .args .count) (s .args .active) (s .args .tallies .now) (s .args .e) (s .pre)))
+clear-code-requires c κs = search needs
 
 enum-told-5 : tie.Need-enum-told-5
 enum-told-5 c = search needs
 
 clear-all-requires : tie.Need-clear-all-requires
-clear-all-requires c κs =
-    let s = c .before .before .before in
-    let w = c .before .enum-told5 .given in
-    clear-all-given (s .args .self) (s .args .count) (s .args .active) (s .args .tallies .now) (rw (w .1) at (accepted-tells (s .args .self) (s .args .count) (s .args .active) (s .args .tallies .now) (s .args .e) (s .pre)))
+clear-all-requires c κs = search needs
 
 enum-told-6 : tie.Need-enum-told-6
 enum-told-6 c = search needs
@@ -84,8 +75,8 @@ enum-known-e-4 c = search needs
 set-up-requires : tie.Need-set-up-requires
 set-up-requires c κs = search needs
 
-enum-told-8 : tie.Need-enum-told-8
-enum-told-8 c = search needs
+enum-known-e-5 : tie.Need-enum-known-e-5
+enum-known-e-5 c = search needs
 
 store-requires : tie.Need-store-requires
 store-requires c κs = search needs
@@ -148,7 +139,7 @@ returns-11 c = rw (c .before .before .e4 .given .1) (c .set-up .ensures, refl)
 
 returns-12 : tie.Need-returns-12
 unfolding accepted
-returns-12 c = rw (c .before .enum-told8 .given .1) (c .store .ensures, refl)
+returns-12 c = rw (c .before .before .e5 .given .1) (c .store .ensures, refl)
 
 pub accepted-spec : {M : Type 1} → statement M
 accepted-spec =
@@ -176,7 +167,7 @@ accepted-spec =
     no-operation-requires
     enum-known-e-4
     set-up-requires
-    enum-told-8
+    enum-known-e-5
     store-requires
     same-length
     returns

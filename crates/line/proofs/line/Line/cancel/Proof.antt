@@ -1,13 +1,13 @@
--- `cancel` puts the kept tally back, which is fit. Assumes nothing.
+-- `cancel` puts the kept tally back. Assumes nothing.
 use borrow.Author.Needs.{needs}
-use mathlib.Core.Path.{_∙_}
-use Rattle.undo.proofs.Laws.{put-back-is}
-use Rattle.line.proofs.Tallies.{lies-there}
 use Rattle.line.proofs.line.Line.cancel.Statement.{statement}
 use Rattle.line.proofs.line.Line.cancel.Tie as tie
 
 put-back-requires : tie.Need-put-back-requires
 put-back-requires c κs = search needs
+
+nothing-requires : tie.Need-nothing-requires
+nothing-requires c κs = search needs
 
 with-undo-requires : tie.Need-with-undo-requires
 with-undo-requires c κs = search needs
@@ -22,13 +22,16 @@ same-length : tie.Need-same-length
 same-length c = search needs
 
 returns : tie.Need-returns
-returns c =
-    let s = c .before .before .before .before .before .before in
-    let l = s .args .self in
-    let ts = s .args .tallies .now in (
-      simp (c .untallied .ensures, c .before .plain .ensures, c .before .before .with-undo .ensures),
-      c .before .before .before .before .put-back .ensures ∙ put-back-is ts (l .code) (l .undo) (lies-there ts (l .code) (s .pre .0) (s .pre .2)) (s .pre .1),
-    )
+returns c = (simp (c .untallied .ensures, c .before .plain .ensures, c .before .before .with-undo .ensures, c .before .before .before .nothing .ensures), c .before .before .before .before .before .put-back .ensures)
 
 pub cancel-spec : {M : Type 1} → statement M
-cancel-spec = tie.close (tie.spec put-back-requires with-undo-requires plain-requires untallied-requires same-length returns)
+cancel-spec =
+    tie.close
+    (tie.spec
+    put-back-requires
+    nothing-requires
+    with-undo-requires
+    plain-requires
+    untallied-requires
+    same-length
+    returns)

@@ -1,10 +1,13 @@
--- `clear_all` empties every part. Assumes nothing.
+-- `clear_all` zeroes the memory and ends the chance to cancel. Assumes nothing.
 use borrow.Author.Needs.{needs}
 use Rattle.line.proofs.line.Line.clear_all.Statement.{statement}
 use Rattle.line.proofs.line.Line.clear_all.Tie as tie
 
 clear-requires : tie.Need-clear-requires
 clear-requires c κs = search needs
+
+nothing-requires : tie.Need-nothing-requires
+nothing-requires c κs = search needs
 
 with-undo-requires : tie.Need-with-undo-requires
 with-undo-requires c κs = search needs
@@ -19,15 +22,14 @@ same-length : tie.Need-same-length
 same-length c = search needs
 
 returns : tie.Need-returns
-returns c =
-    let s = c .before .before .before .before .before .before in
-    (simp (c .untallied .ensures, c .before .plain .ensures, c .before .before .with-undo .ensures), rw (s .pre) at (c .before .before .before .before .clear .ensures))
+returns c = (simp (c .untallied .ensures, c .before .plain .ensures, c .before .before .with-undo .ensures, c .before .before .before .nothing .ensures), c .before .before .before .before .before .clear .ensures)
 
 pub clear-all-spec : {M : Type 1} → statement M
 clear-all-spec =
     tie.close
     (tie.spec
     clear-requires
+    nothing-requires
     with-undo-requires
     plain-requires
     untallied-requires

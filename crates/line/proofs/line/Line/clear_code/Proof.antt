@@ -1,9 +1,5 @@
--- `clear_code` empties a code's part. Assumes nothing.
+-- `clear_code` writes the empty tally. Assumes nothing.
 use borrow.Author.Needs.{needs}
-use mathlib.Core.Bool.{true}
-use mathlib.Core.Path.{_≡_, refl, _∙_}
-use Rattle.tally.specs.Tally.{emptyTally, tallyFit}
-use Rattle.line.proofs.Tallies.{written-is}
 use Rattle.line.proofs.line.Line.clear_code.Statement.{statement}
 use Rattle.line.proofs.line.Line.clear_code.Tie as tie
 
@@ -25,17 +21,8 @@ untallied-requires c κs = search needs
 same-length : tie.Need-same-length
 same-length c = search needs
 
-empty-fit : tallyFit emptyTally ≡ true
-unfolding tallyFit
-empty-fit = refl
-
 returns : tie.Need-returns
-returns c =
-    let s = c .before .before .before .before .before .before .before in
-    let a = s .args in (
-      simp (c .untallied .ensures, c .before .plain .ensures, c .before .before .code-cleared .ensures),
-      rw (c .before .before .before .before .before .empty .ensures) at (c .before .before .before .before .write .ensures) ∙ written-is (a .tallies .now) (a .code) (s .pre .0) (s .pre .1) emptyTally empty-fit,
-    )
+returns c = (simp (c .untallied .ensures, c .before .plain .ensures, c .before .before .code-cleared .ensures), rw (c .before .before .before .before .before .empty .ensures) at (c .before .before .before .before .write .ensures))
 
 pub clear-code-spec : {M : Type 1} → statement M
 clear-code-spec =

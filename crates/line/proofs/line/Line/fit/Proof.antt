@@ -3,7 +3,7 @@ use borrow.Author.Needs.{needs}
 use borrow.Author.Tests.{not-true, not-false}
 use mathlib.Core.Bool.{and-false, and-true}
 use mathlib.Core.Path.{sym, _∙_}
-use Rattle.event.specs.Event.{isCode}
+use Rattle.settings.specs.Settings.{isCode}
 use Rattle.line.specs.Fit.{lineFit}
 use Rattle.line.proofs.line.Line.fit.Statement.{statement}
 use Rattle.line.proofs.line.Line.fit.Tie as tie
@@ -36,7 +36,9 @@ fit-requires-5 : tie.Need-fit-requires-5
 fit-requires-5 c κs = search needs
 
 fit-requires-6 : tie.Need-fit-requires-6
-fit-requires-6 c κs = sym (c .before .before .before .before .before .before .before .before .before .before .before .fit .ensures) ∙ not-false _ (c .before .before .before .before .before .before .before .before .before .before .if1 .left)
+fit-requires-6 c κs =
+    let t = c .before .before .before .before .before .before .before .before .before .before .before in
+    sym (t .before .fit .ensures) ∙ not-false _ (t .if1 .left)
 
 fit-requires-7 : tie.Need-fit-requires-7
 fit-requires-7 c κs = search needs
@@ -44,9 +46,10 @@ fit-requires-7 c κs = search needs
 returns-2 : tie.Need-returns-2
 unfolding lineFit
 returns-2 c =
-    let s = c .before .before .before .before .before .before .before .before .before .before .before .before .before .before .before .args .self in
+    let t = c .before .before .before .before .before .before .before .before .before .before .before .before .before in
+    let s = t .before .before .before .args .self in
     simp (
-      sym (c .before .before .before .before .before .before .before .before .before .before .before .before .before .fit .ensures) ∙ not-false _ (c .before .before .before .before .before .before .before .before .before .before .before .before .if1 .left),
+      sym (t .before .fit .ensures) ∙ not-false _ (t .if1 .left),
       and-true (isCode (s .code)),
       c .fit7 .ensures,
       c .before .fit6 .ensures,

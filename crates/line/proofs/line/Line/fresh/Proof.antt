@@ -13,9 +13,12 @@ none-requires c κs = search needs
 off-requires : tie.Need-off-requires
 off-requires c κs = search needs
 
+nothing-requires : tie.Need-nothing-requires
+nothing-requires c κs = search needs
+
 returns : tie.Need-returns
 unfolding freshLine
-returns c = simp (c .off .ensures, c .before .none .ensures, c .before .before .fresh-setup .ensures)
+returns c = simp (c .nothing .ensures, c .before .off .ensures, c .before .before .none .ensures, c .before .before .before .fresh-setup .ensures)
 
 pub fresh-spec : {M : Type 1} → statement M
-fresh-spec = tie.close (tie.spec fresh-setup-requires none-requires off-requires returns)
+fresh-spec = tie.close (tie.spec fresh-setup-requires none-requires off-requires nothing-requires returns)

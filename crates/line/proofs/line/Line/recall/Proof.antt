@@ -1,7 +1,10 @@
--- `recall` hands the next line back with a reply that tallies nothing. Assumes nothing.
+-- `recall` makes a code active and ends the chance to cancel. Assumes nothing.
 use borrow.Author.Needs.{needs}
 use Rattle.line.proofs.line.Line.recall.Statement.{statement}
 use Rattle.line.proofs.line.Line.recall.Tie as tie
+
+nothing-requires : tie.Need-nothing-requires
+nothing-requires c κs = search needs
 
 with-undo-requires : tie.Need-with-undo-requires
 with-undo-requires c κs = search needs
@@ -16,9 +19,15 @@ untallied-requires : tie.Need-untallied-requires
 untallied-requires c κs = search needs
 
 returns : tie.Need-returns
-returns c = simp (c .untallied .ensures, c .before .plain .ensures, c .before .before .with-code .ensures, c .before .before .before .with-undo .ensures)
+returns c = simp (c .untallied .ensures, c .before .plain .ensures, c .before .before .with-code .ensures, c .before .before .before .with-undo .ensures, c .before .before .before .before .nothing .ensures)
 
 pub recall-spec : {M : Type 1} → statement M
 recall-spec =
     tie.close
-    (tie.spec with-undo-requires with-code-requires plain-requires untallied-requires returns)
+    (tie.spec
+    nothing-requires
+    with-undo-requires
+    with-code-requires
+    plain-requires
+    untallied-requires
+    returns)

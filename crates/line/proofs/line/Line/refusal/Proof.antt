@@ -1,5 +1,6 @@
 -- `refusal` equals its definition `refusalOf`. Assumes nothing.
 use borrow.Author.Needs.{needs}
+use Rattle.laws.proofs.Signed.{back}
 use Rattle.line.specs.Refusal.{refusalOf}
 use Rattle.line.proofs.line.Line.refusal.Statement.{statement}
 use Rattle.line.proofs.line.Line.refusal.Tie as tie
@@ -16,11 +17,17 @@ status-wrong-requires c κs = search needs
 agrees-requires : tie.Need-agrees-requires
 agrees-requires c κs = search needs
 
+input-off-requires : tie.Need-input-off-requires
+input-off-requires c κs = search needs
+
 run-unsafe-requires : tie.Need-run-unsafe-requires
 run-unsafe-requires c κs = search needs
 
 run-occupied-requires : tie.Need-run-occupied-requires
 run-occupied-requires c κs = search needs
+
+is-nothing-requires : tie.Need-is-nothing-requires
+is-nothing-requires c κs = search needs
 
 nothing-to-cancel-requires : tie.Need-nothing-to-cancel-requires
 nothing-to-cancel-requires c κs = search needs
@@ -31,8 +38,14 @@ number-requires c κs = search needs
 returns : tie.Need-returns
 unfolding refusalOf
 returns c =
-    rw
-    (c .before .before .before .before .before .before .before .memory-sound .ensures, c .before .before .before .before .before .before .ranged .ensures, c .before .before .before .before .before .status-wrong .ensures, c .before .before .before .before .agrees .ensures, c .before .before .before .run-unsafe .ensures, c .before .before .run-occupied .ensures, c .before .nothing-to-cancel .ensures)
+    let o = c .before .before .before in
+    let u = o .before .before .before in
+    let s = u .before .before .before in
+    let a = s .before .before .before .before .before .args in
+    let occupied =
+    rw (back (a .active .nearzero) (o .before .before .struct-told .given .1 .1 .1 .1 .1 .0 .1), back (a .self .last .gross) (o .before .struct-told2 .given .0 .1))
+    at (o .run-occupied .ensures) in
+    rw (s .before .before .memory-sound .ensures, s .before .ranged .ensures, s .status-wrong .ensures, u .before .before .agrees .ensures, u .run-unsafe .ensures, u .before .input-off .ensures, occupied, c .before .nothing-to-cancel .ensures, c .before .before .is-nothing .ensures)
     at (c .number .ensures)
 
 pub refusal-spec : {M : Type 1} → statement M
@@ -43,8 +56,10 @@ refusal-spec =
     ranged-requires
     status-wrong-requires
     agrees-requires
+    input-off-requires
     run-unsafe-requires
     run-occupied-requires
+    is-nothing-requires
     nothing-to-cancel-requires
     number-requires
     returns)

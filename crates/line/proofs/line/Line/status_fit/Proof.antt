@@ -3,9 +3,10 @@ use borrow.Author.Needs.{needs}
 use mathlib.Core.Path.{_≡_}
 use mathlib.Core.Bool.{Bool, true, false, not, _&&_, _||_, and-true}
 use lib.Dec.{leb, eqb}
-use Rattle.line.specs.Line.{stopped, paused, emergency, busy}
+use Rattle.status.specs.Status.{stopped, paused, emergency, errorKnown}
+use Rattle.line.specs.Line.{busy}
 use Rattle.event.specs.Reply.{noError}
-use Rattle.line.specs.Fit.{statusFit, errorKnown}
+use Rattle.line.specs.Fit.{statusFit}
 use Rattle.line.specs.declared.line.Line.{Line}
 use Rattle.line.proofs.line.Line.status_fit.Statement.{statement}
 use Rattle.line.proofs.line.Line.status_fit.Tie as tie

@@ -1,4 +1,4 @@
--- `store` hands the next line back with a reply that tallies nothing. Assumes nothing.
+-- `store` hands back the line, and the record that is to be stored. Assumes nothing.
 use borrow.Author.Needs.{needs}
 use Rattle.line.proofs.line.Line.store.Statement.{statement}
 use Rattle.line.proofs.line.Line.store.Tie as tie
@@ -6,11 +6,11 @@ use Rattle.line.proofs.line.Line.store.Tie as tie
 plain-requires : tie.Need-plain-requires
 plain-requires c κs = search needs
 
-untallied-requires : tie.Need-untallied-requires
-untallied-requires c κs = search needs
+replied-requires : tie.Need-replied-requires
+replied-requires c κs = search needs
 
 returns : tie.Need-returns
-returns c = simp (c .untallied .ensures, c .before .plain .ensures)
+returns c = simp (c .replied .ensures, c .before .plain .ensures)
 
 pub store-spec : {M : Type 1} → statement M
-store-spec = tie.close (tie.spec plain-requires untallied-requires returns)
+store-spec = tie.close (tie.spec plain-requires replied-requires returns)

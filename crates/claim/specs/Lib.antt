@@ -1,0 +1,3 @@
+pub mod Run
+pub mod Claim
+pub mod Example

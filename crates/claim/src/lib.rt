@@ -1,0 +1,14 @@
+// Demand 3: no box is counted twice or lost, whatever list of events comes.
+ghost use Rattle.claim.specs.Claim.{Claim};
+ghost use Rattle.claim.specs.Example.{Example};
+
+// The claim over every list of events, from a fresh line and fresh memory. It says nothing of the code here: it is a
+// theorem on `stepOn`, which `line::Line::apply` is proved to be.
+pub fn ledger()
+    ensures { λ _. ⌜ Claim ⌝ }
+{}
+
+// The worked example of document 01, on the same definitions.
+pub fn worked_example()
+    ensures { λ _. ⌜ Example ⌝ }
+{}

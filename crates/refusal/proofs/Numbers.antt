@@ -1,0 +1,58 @@
+-- The number that the table gives. Assumes nothing.
+use mathlib.Core.Path.{_≡_, refl}
+use mathlib.Core.Bool.{Bool, true, false}
+use mathlib.Core.Logic.{_≢_}
+use Prim.Native.Nat.{ℕ, suc}
+use native.Mathlib.Omega.{arith}
+use Rattle.laws.specs.Choice.{if_then_else_}
+use Rattle.laws.proofs.Tests.{if-ind}
+use Rattle.refusal.specs.Table.{table, firstHolding}
+use Rattle.refusal.specs.declared.Faults.{Faults}
+
+-- 8 is that of memory alone
+pub not-eight : (f : Faults) → f .memory ≡ false → firstHolding (table f) ≢ 8
+not-eight f h =
+    rw h
+    (if-ind Other (f .value) _ _ (λ _ x. omega arith)
+    (λ _. if-ind Other (f .status) _ _ (λ _ x. omega arith)
+    (λ _. if-ind Other (f .contradiction) _ _ (λ _ x. omega arith)
+    (λ _. if-ind Other (f .safety) _ _ (λ _ x. omega arith)
+    (λ _. if-ind Other (f .occupied) _ _ (λ _ x. omega arith)
+    (λ _. if-ind Other (f .nothing) 7 0 (λ _ x. omega arith) (λ _ x. omega arith)))))))
+  where
+    Other : ℕ → Type 0
+    Other n = n ≢ 8
+
+-- no condition of the table holds
+pub record NoneHolds (f : Faults) : Type 0 where
+  pub memory : f .memory ≡ false
+  pub value : f .value ≡ false
+  pub status : f .status ≡ false
+  pub contradiction : f .contradiction ≡ false
+  pub safety : f .safety ≡ false
+  pub occupied : f .occupied ≡ false
+  pub nothing : f .nothing ≡ false
+
+passed : (b : Bool) (k x : ℕ) → (if b then suc k else x) ≡ 0 → (b ≡ false) × (x ≡ 0)
+passed true k x h = absurd (omega arith)
+passed false k x h = (refl, h)
+
+-- the number 0 tells it
+pub none-holds : (f : Faults) → firstHolding (table f) ≡ 0 → NoneHolds f
+none-holds f h =
+    let r8 = passed (f .memory) 7 _ h in
+    let r2 = passed (f .value) 1 _ (r8 .1) in
+    let r3 = passed (f .status) 2 _ (r2 .1) in
+    let r4 = passed (f .contradiction) 3 _ (r3 .1) in
+    let r5 = passed (f .safety) 4 _ (r4 .1) in
+    let r6 = passed (f .occupied) 5 _ (r5 .1) in
+    let r7 = passed (f .nothing) 6 _ (r6 .1) in
+    record {
+      memory = r8 .0;
+      value = r2 .0;
+      status = r3 .0;
+      contradiction = r4 .0;
+      safety = r5 .0;
+      occupied = r6 .0;
+      nothing = r7 .0;
+    }

@@ -1,0 +1,36 @@
+-- 01, "Line and memory" and "Events": the line's status and error.
+use Prim.Native.Nat.{ℕ}
+use mathlib.Core.Bool.{Bool, _||_}
+use lib.Dec.{eqb}
+use Rattle.laws.specs.Choice.{if_then_else_}
+use Rattle.event.specs.Reply.{noError}
+
+-- "Status: 0 stopped, 1 running, 2 paused, 3 emergency."
+abbrev pub stopped : ℕ
+stopped = 0
+
+abbrev pub running : ℕ
+running = 1
+
+abbrev pub paused : ℕ
+paused = 2
+
+abbrev pub emergency : ℕ
+emergency = 3
+
+-- "running and busy gives paused, error 0", and "0 a grade"
+abbrev pub plainError : ℕ
+plainError = 0
+
+-- "If a bit set in need is 0 in safety: paused, error 1"
+abbrev pub unsafeError : ℕ
+unsafeError = 1
+
+-- "error known here": none, 0, 1, and those of `errorFor`
+unfoldable pub errorKnown : ℕ → Bool
+errorKnown e =
+    eqb e noError || eqb e plainError || eqb e unsafeError || eqb e 2 || eqb e 5 || eqb e 6
+
+-- "error 2 for two-on, 5 foreign, 6 crash, 0 a grade"
+unfoldable pub errorFor : ℕ → ℕ
+errorFor v = if eqb v 7 then 2 else (if eqb v 6 then 5 else (if eqb v 8 then 6 else plainError))

@@ -1,0 +1,50 @@
+// The line's status and error: their numbers, and the error that a verdict stops the line with.
+ghost use mathlib.Core.Path.{_≡_};
+ghost use Rattle.status.specs.Status.{errorKnown, errorFor};
+use event::Done;
+
+pub const STOPPED: u64 = 0;
+
+pub const RUNNING: u64 = 1;
+
+pub const PAUSED: u64 = 2;
+
+pub const EMERGENCY: u64 = 3;
+
+// The errors: a stop while busy or a grade that stops, a required input off, two-on, foreign, crash.
+pub const PLAIN: u64 = 0;
+
+pub const UNSAFE: u64 = 1;
+
+pub const TWO_ON: u64 = 2;
+
+pub const FOREIGN: u64 = 5;
+
+pub const CRASH: u64 = 6;
+
+pub fn error_known(error: u64) -> bool
+    ensures { λ r. ⌜ r ≡ errorKnown error ⌝ }
+{
+    (error == Done::NO_ERROR)
+        | (error == PLAIN)
+        | (error == UNSAFE)
+        | (error == TWO_ON)
+        | (error == FOREIGN)
+        | (error == CRASH)
+}
+
+// The error of a line that this verdict, 1 (LoLo) to 8 (crash), stops.
+pub fn error_for(verdict: u64) -> u64
+    ensures { λ r. ⌜ r ≡ errorFor verdict ⌝ }
+{
+    if verdict == 7 {
+        return TWO_ON;
+    }
+    if verdict == 6 {
+        return FOREIGN;
+    }
+    if verdict == 8 {
+        return CRASH;
+    }
+    PLAIN
+}
