@@ -1,6 +1,6 @@
 -- Parts of a line are changed and it stays fit. Assumes nothing.
 use mathlib.Core.Path.{_≡_, refl}
-use mathlib.Core.Bool.{Bool, true, _&&_, _||_, not}
+use mathlib.Core.Bool.{true, _&&_, _||_, not}
 use Prim.Native.Nat.{ℕ}
 use lib.Dec.{leb, eqb}
 use borrow.Author.Tests.{eqb-true}
@@ -22,6 +22,7 @@ use Rattle.line.specs.Verdict.{sortedFor, stoppedFor}
 use Rattle.line.specs.Sample.{step1, step4, step5}
 use Rattle.line.specs.declared.line.Line.{Line}
 use Rattle.line.specs.declared.item.Item.{Item}
+use Rattle.line.specs.declared.sample.Tick.{Tick}
 use Rattle.line.proofs.Facts.{FitLine}
 
 -- ---- the status
@@ -125,11 +126,11 @@ fit-step4 l r =
     with-sorter l (sorterTicked (l .sorter) (l .setup .to)) r
     (ticked-fit (l .sorter) (l .setup .to) (timers (l .setup) (r .fit .setup) .to) (r .fit .sorter))
 
-pub fit-step5 : (l : Line) (rises : Bool) → Running l → Running (step5 l rises)
+pub fit-step5 : (l : Line) (t : Tick) → Running l → Running (step5 l t)
 unfolding step5
-fit-step5 l rises r =
-    with-foreign l (foreignTicked (l .foreign) rises (l .setup .tf)) r
-    (foreign-ticked-fit (l .foreign) rises (l .setup .tf) (timers (l .setup) (r .fit .setup) .tf) (r .fit .delay))
+fit-step5 l t r =
+    with-foreign l (foreignTicked (l .foreign) (t .rises) (l .setup .tf)) r
+    (foreign-ticked-fit (l .foreign) (t .rises) (l .setup .tf) (timers (l .setup) (r .fit .setup) .tf) (r .fit .delay))
 
 pub fit-sorted : (l : Line) (v : ℕ) → Running l → Running (sortedFor l v)
 unfolding sortedFor

@@ -1,7 +1,6 @@
 pub mod Facts
 pub mod Accepted
 pub mod Items
-pub mod Steps
 pub mod Moves
 pub mod Keeps
 pub mod Ticks

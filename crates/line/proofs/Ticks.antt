@@ -27,8 +27,9 @@ use Rattle.event.specs.Reply.{noError}
 use Rattle.line.specs.Fit.{itemFit}
 use Rattle.line.specs.Effect.{plain, halted, halting}
 use Rattle.line.specs.Verdict.{sortedFor, stoppedFor, given, orCrash, verdictOf, judged}
-use Rattle.line.specs.Sample.{step1, step2, step3, step4, step5, step6, step7, afterWeighing, newItem, detecting, runningTick, guarded, fromStep3, sampled, foreignRises}
+use Rattle.line.specs.Sample.{step1, step2, step3, step4, step5, step6, step7, afterWeighing, newItem, detecting, runningTick, guarded, fromStep3, sampled, tickOf}
 use Rattle.line.specs.Command.{ran, stopping, alarmed}
+use Rattle.line.specs.declared.sample.Tick.{Tick}
 use Rattle.line.specs.declared.line.Line.{Line}
 use Rattle.line.specs.declared.effect.Effect.{Effect}
 use Rattle.line.specs.declared.item.Item.the-variants.{None}
@@ -156,11 +157,11 @@ after-weighing l a r f (still j g s) =
     inl (record { run = with-item l j r g; code = refl; undo = refl; same = s; detected = refl; outcome = refl; net = refl })
 after-weighing l a r f (mean m w h) = inr (mean-ends l a m (with-item l None r refl) w f h)
 
-six : (l : Line) (a : Settings) (gross : ℤ) → Running l → recordFit a ≡ true → isWeight gross ≡ true → Stays l (step6 l a gross) ⊎ Ends l (step6 l a gross)
+six : (l : Line) (t : Tick) → Running l → recordFit (t .active) ≡ true → isWeight (t .gross) ≡ true → Stays l (step6 l t) ⊎ Ends l (step6 l t)
 unfolding step6
-six l a gross r f g =
-    after-weighing l a r f
-    (weighing (l .item) (l .setup) gross (timers (l .setup) (r .fit .setup)) (r .fit .item) g)
+six l t r f g =
+    after-weighing l (t .active) r f
+    (weighing (l .item) (l .setup) (t .gross) (timers (l .setup) (r .fit .setup)) (r .fit .item) g)
 
 -- ---- step 7
 
@@ -221,11 +222,11 @@ ends-went l e s =
       net = s .net;
     }
 
-seven : (l : Line) (e : Effect) (made : Bool) → Stays l e ⊎ Ends l e → Went l (step7 e made)
+seven : (l : Line) (e : Effect) (t : Tick) → Stays l e ⊎ Ends l e → Went l (step7 e t)
 unfolding step7
-seven l e made s =
-    if-ind (Went l) (isRunning (e .line) && made) _ _
-    (λ h. ⊎-elim (λ x. stays-detecting l e x) (λ x. ends-detecting l e x (both (isRunning (e .line)) made h .0)) s)
+seven l e t s =
+    if-ind (Went l) (isRunning (e .line) && t .made) _ _
+    (λ h. ⊎-elim (λ x. stays-detecting l e x) (λ x. ends-detecting l e x (both (isRunning (e .line)) (t .made) h .0)) s)
     (λ _. ⊎-elim (λ x. stays-went l e x) (λ x. ends-went l e x) s)
 
 -- ---- a running tick, and a sample
@@ -235,12 +236,12 @@ went-from : (k l : Line) (e : Effect) → k .code ≡ l .code → k .undo ≡ l 
 went-from k l e c u i w =
     record { fit = w .fit; code = w .code ∙ c; undo = w .undo ∙ u; boxes = rw (← i) (w .boxes); net = w .net }
 
-tick-goes : (l : Line) (a : Settings) (gross : ℤ) (rises made : Bool) → Running l → recordFit a ≡ true → isWeight gross ≡ true → Went l (runningTick l a gross rises made)
+tick-goes : (l : Line) (t : Tick) → Running l → recordFit (t .active) ≡ true → isWeight (t .gross) ≡ true → Went l (runningTick l t)
 unfolding runningTick step4 step5
-tick-goes l a gross rises made r f g =
-    let k = step5 (step4 l) rises in
+tick-goes l t r f g =
+    let k = step5 (step4 l) t in
     went-from k l _ refl refl refl
-    (seven k (step6 k a gross) made (six k a gross (fit-step5 (step4 l) rises (fit-step4 l r)) f g))
+    (seven k (step6 k t) t (six k t (fit-step5 (step4 l) t (fit-step4 l r)) f g))
 
 pub plain-goes : (l k : Line) → FitLine k → k .code ≡ l .code → k .undo ≡ l .undo → k .item ≡ l .item → Went l (plain k)
 plain-goes l k f c u i = record { fit = f; code = c; undo = u; boxes = rw i (moves.still (hand l)); net = refl }
@@ -254,26 +255,26 @@ halting-goes l s f =
     all true = moves.abandoned
     all false = moves.still 0
 
-guarded-goes : (l : Line) (a : Settings) (gross : ℤ) (rises made : Bool) → FitLine l → recordFit a ≡ true → isWeight gross ≡ true → Went l (guarded l a gross rises made)
+guarded-goes : (l : Line) (t : Tick) → FitLine l → recordFit (t .active) ≡ true → isWeight (t .gross) ≡ true → Went l (guarded l t)
 unfolding guarded
-guarded-goes l a gross rises made r f g =
+guarded-goes l t r f g =
     if-ind (Went l) (isRunning l) _ _
-    (λ h. tick-goes l a gross rises made (to-running l r h) f g)
+    (λ h. tick-goes l t (to-running l r h) f g)
     (λ _. plain-goes l l r refl refl refl)
 
-step3-goes : (l : Line) (a : Settings) (gross : ℤ) (rises made : Bool) → FitLine l → recordFit a ≡ true → isWeight gross ≡ true → Went l (guarded (step3 l) a gross rises made)
+step3-goes : (l : Line) (t : Tick) → FitLine l → recordFit (t .active) ≡ true → isWeight (t .gross) ≡ true → Went l (guarded (step3 l) t)
 unfolding step3 errorKnown
-step3-goes l a gross rises made r f g =
-    if-ind (λ (k : Line). Went l (guarded k a gross rises made)) (eqb (lowestOff (l .setup .need) (l .last .safety)) 0) _ _
-    (λ _. guarded-goes l a gross rises made r f g)
+step3-goes l t r f g =
+    if-ind (λ (k : Line). Went l (guarded k t)) (eqb (lowestOff (l .setup .need) (l .last .safety)) 0) _ _
+    (λ _. guarded-goes l t r f g)
     (λ _. let k = withStatus l paused 1 in
-    went-from k l _ refl refl refl (guarded-goes k a gross rises made (with-paused l 1 r refl) f g))
+    went-from k l _ refl refl refl (guarded-goes k t (with-paused l 1 r refl) f g))
 
-from-step3 : (l : Line) (e : Effect) (a : Settings) (gross : ℤ) (rises made : Bool) → (isRunning (e .line) ≡ true → e ≡ plain l) → FitLine l → Went l e → recordFit a ≡ true → isWeight gross ≡ true → Went l (fromStep3 e a gross rises made)
+from-step3 : (l : Line) (e : Effect) (t : Tick) → (isRunning (e .line) ≡ true → e ≡ plain l) → FitLine l → Went l e → recordFit (t .active) ≡ true → isWeight (t .gross) ≡ true → Went l (fromStep3 e t)
 unfolding fromStep3
-from-step3 l e a gross rises made p r w f g =
+from-step3 l e t p r w f g =
     if-ind (Went l) (isRunning (e .line)) _ _
-    (λ h. rw (p h) (step3-goes l a gross rises made r f g))
+    (λ h. rw (p h) (step3-goes l t r f g))
     (λ _. w)
 
 -- step 2 leaves a line running only where it changes nothing
@@ -295,7 +296,7 @@ sample-goes l a s f r g =
     let k = step1 l s in
     let two = step2-goes k (s .emergency) (fit-step1 l s f g) in
     went-from k l _ refl refl refl
-    (from-step3 k (step2 k (s .emergency)) a (s .gross) (foreignRises l s) _ (two .1) (fit-step1 l s f g) (two .0) r (g .gross))
+    (from-step3 k (step2 k (s .emergency)) (tickOf l a s) (two .1) (fit-step1 l s f g) (two .0) r (g .gross))
 
 -- ---- run, stop, emergency
 

@@ -1,25 +1,31 @@
 -- 01, "Sample": the seven steps in order.
 use Prim.Native.Nat.{ℕ, _-_}
-use mathlib.Core.Bool.{Bool, _&&_}
+use mathlib.Core.Bool.{Bool, true, _&&_}
+use mathlib.Core.Path.{_≡_}
 use lib.Dec.{eqb, ltb}
 use lib.IntN.{ℤ, pos, _+ℤ_}
 use Rattle.laws.specs.Choice.{if_then_else_}
 use Rattle.weight.specs.Mean.{rounded}
+use Rattle.weight.specs.Weight.{isWeight}
 use Rattle.mask.specs.Bits.{lowestOff}
+use Rattle.settings.specs.Settings.{recordFit}
 use Rattle.settings.specs.declared.Settings.{Settings}
 use Rattle.device.specs.Sensor.{settled}
 use Rattle.device.specs.Sorter.{sorterTicked}
 use Rattle.device.specs.Foreign.{foreignTicked}
+use Rattle.event.specs.Setup.{setupFit}
 use Rattle.event.specs.declared.Setup.{Setup}
 use Rattle.event.specs.declared.Sample.{Sample}
 use Rattle.status.specs.Status.{stopped, paused, emergency, unsafeError}
 use Rattle.line.specs.Line.{isRunning, inHand, withStatus, withSensed, withForeign, withItem, withSorter}
+use Rattle.line.specs.Fit.{itemFit}
 use Rattle.line.specs.Effect.{plain, halting}
 use Rattle.line.specs.Verdict.{given, judged}
 use Rattle.line.specs.declared.item.Item.{Item}
 use Rattle.line.specs.declared.item.Item.the-variants.{None, Waiting, Averaging}
 use Rattle.line.specs.declared.item.Weighed.{Weighed}
 use Rattle.line.specs.declared.item.Weighed.the-variants.{Still, Mean}
+use Rattle.line.specs.declared.sample.Tick.{Tick}
 use Rattle.line.specs.declared.line.Line.{Line}
 use Rattle.line.specs.declared.effect.Effect.{Effect}
 
@@ -38,6 +44,23 @@ edgeMade edge before after =
 unfoldable pub foreignRises : Line → Sample → Bool
 foreignRises l s = eqb (l .last .foreign) 0 && eqb (s .foreign) 1
 
+-- what a running tick is given: the active code's record, the gross, and what the sample changed
+abbrev pub tickOf : Line → Settings → Sample → Tick
+tickOf l a s =
+    record {
+      active = a;
+      gross = s .gross;
+      rises = foreignRises l s;
+      made = edgeMade (l .setup .edge) (l .sensor .level) (step1 l s .sensor .level);
+    }
+
+-- what its steps need: the parts of a fit line that they read, a fit record and a weight
+pub record Ready (l : Line) (t : Tick) : Type 0 where
+  pub setup : setupFit (l .setup) ≡ true
+  pub item : itemFit (l .item) (l .setup) ≡ true
+  pub active : recordFit (t .active) ≡ true
+  pub gross : isWeight (t .gross) ≡ true
+
 -- 2. "Emergency 1: status 3. Emergency 0 in status 3: stopped."
 unfoldable pub step2 : Line → ℕ → Effect
 step2 l level =
@@ -53,8 +76,8 @@ unfoldable pub step4 : Line → Line
 step4 l = withSorter l (sorterTicked (l .sorter) (l .setup .to))
 
 -- 5. the foreign delay and flag
-unfoldable pub step5 : Line → Bool → Line
-step5 l rises = withForeign l (foreignTicked (l .foreign) rises (l .setup .tf))
+unfoldable pub step5 : Line → Tick → Line
+step5 l t = withForeign l (foreignTicked (l .foreign) (t .rises) (l .setup .tf))
 
 -- "An item detected at running tick d is averaged over ticks d+tw+1 to d+tw+ta. On the last, m = sum / ta"
 unfoldable pub weighed : Item → ℕ → ℤ → Weighed
@@ -68,8 +91,8 @@ afterWeighing l a (Still i) = plain (withItem l i)
 afterWeighing l a (Mean m) = judged (withItem l None) a m
 
 -- 6. the item in hand is weighed, and judged on its last tick
-unfoldable pub step6 : Line → Settings → ℤ → Effect
-step6 l a gross = afterWeighing l a (weighed (l .item) (l .setup .ta) gross)
+unfoldable pub step6 : Line → Tick → Effect
+step6 l t = afterWeighing l (t .active) (weighed (l .item) (l .setup .ta) (t .gross))
 
 -- an item as it is detected
 unfoldable pub newItem : Setup → Item
@@ -82,23 +105,21 @@ detecting e =
     else record { line = withItem (e .line) (newItem (e .line .setup)); detected = 1; outcome = e .outcome; net = e .net }
 
 -- 7. "If still running and the settled level made the chosen edge in step 1"
-unfoldable pub step7 : Effect → Bool → Effect
-step7 e made = if isRunning (e .line) && made then detecting e else e
+unfoldable pub step7 : Effect → Tick → Effect
+step7 e t = if isRunning (e .line) && t .made then detecting e else e
 
 -- "Else it is a running tick": steps 4 to 7
-unfoldable pub runningTick : Line → Settings → ℤ → Bool → Bool → Effect
-runningTick l a gross rises made = step7 (step6 (step5 (step4 l) rises) a gross) made
+unfoldable pub runningTick : Line → Tick → Effect
+runningTick l t = step7 (step6 (step5 (step4 l) t) t) t
 
 -- step 3, and a running tick if it did not end the sample
-unfoldable pub guarded : Line → Settings → ℤ → Bool → Bool → Effect
-guarded l a gross rises made = if isRunning l then runningTick l a gross rises made else plain l
+unfoldable pub guarded : Line → Tick → Effect
+guarded l t = if isRunning l then runningTick l t else plain l
 
 -- "If not running, the sample ends."
-unfoldable pub fromStep3 : Effect → Settings → ℤ → Bool → Bool → Effect
-fromStep3 e a gross rises made =
-    if isRunning (e .line) then guarded (step3 (e .line)) a gross rises made else e
+unfoldable pub fromStep3 : Effect → Tick → Effect
+fromStep3 e t = if isRunning (e .line) then guarded (step3 (e .line)) t else e
 
 unfoldable pub sampled : Line → Settings → Sample → Effect
 sampled l a s =
-    fromStep3 (step2 (step1 l s) (s .emergency)) a (s .gross) (foreignRises l s)
-    (edgeMade (l .setup .edge) (l .sensor .level) (step1 l s .sensor .level))
+    fromStep3 (step2 (step1 l s) (s .emergency)) (tickOf l a s)

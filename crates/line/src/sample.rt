@@ -1,12 +1,10 @@
 // A sample: the seven steps in order.
 ghost use mathlib.Core.Path.{_≡_};
 ghost use mathlib.Core.Bool.{true};
-ghost use Rattle.weight.specs.Weight.{isWeight};
 ghost use Rattle.settings.specs.Settings.{recordFit};
-ghost use Rattle.event.specs.Setup.{setupFit};
 ghost use Rattle.event.specs.Sample.{sampleRanged};
-ghost use Rattle.line.specs.Fit.{itemFit, lineFit};
-ghost use Rattle.line.specs.Sample.{step1, edgeMade, foreignRises, step4, step5, step6, detecting, step7, runningTick, sampled};
+ghost use Rattle.line.specs.Fit.{lineFit};
+ghost use Rattle.line.specs.Sample.{Ready, step1, edgeMade, foreignRises, step4, step5, step6, detecting, step7, runningTick, sampled};
 use crate::effect::Effect;
 use crate::item::Item;
 use crate::item::Weighed;
@@ -15,6 +13,15 @@ use crate::line::Last;
 use crate::line::Line;
 use event::Sample;
 use settings::Settings;
+
+// What a running tick is given: the active code's record, the gross (divisions), whether the foreign level rose and whether
+// the settled level made the chosen edge.
+pub(crate) struct Tick {
+    pub(crate) active: Settings,
+    pub(crate) gross: i64,
+    pub(crate) rises: bool,
+    pub(crate) made: bool,
+}
 
 // Edge 1 is off to on, edge 2 on to off.
 fn edge_made(edge: u64, before: u64, after: u64) -> bool
@@ -57,34 +64,34 @@ impl Line {
     }
 
     // The foreign delay and flag.
-    fn step5(self, rises: bool) -> Line
-        ensures { λ r. ⌜ r ≡ step5 self rises ⌝ }
+    fn step5(self, tick: Tick) -> Line
+        ensures { λ r. ⌜ r ≡ step5 self tick ⌝ }
     {
         let foreign = self.foreign;
-        let next = foreign.ticked(rises, self.setup.tf);
+        let next = foreign.ticked(tick.rises, self.setup.tf);
         self.with_foreign(next)
     }
 
     // The item in hand is weighed, and judged on its last tick.
-    fn step6(self, active: Settings, gross: i64) -> Effect
-        requires { ⌜ (setupFit (self .setup) ≡ true) × (itemFit (self .item) (self .setup) ≡ true) × (recordFit active ≡ true) × (isWeight gross ≡ true) ⌝ }
-        ensures { λ r. ⌜ r ≡ step6 self active gross ⌝ }
+    fn step6(self, tick: Tick) -> Effect
+        requires { ⌜ Ready self tick ⌝ }
+        ensures { λ r. ⌜ r ≡ step6 self tick ⌝ }
     {
         let item = self.item;
         let setup = self.setup;
-        let weighed = item.weighed(setup, gross);
+        let weighed = item.weighed(setup, tick.gross);
         match weighed {
             Weighed::Still(i) => Effect::plain(self.with_item(i)),
-            Weighed::Mean(m) => self.with_item(Item::None).judged(active, m),
+            Weighed::Mean(m) => self.with_item(Item::None).judged(tick.active, m),
         }
     }
 
     // A detected box, alone or with one in hand.
-    fn step7(e: Effect, made: bool) -> Effect
-        ensures { λ r. ⌜ r ≡ step7 e made ⌝ }
+    fn step7(e: Effect, tick: Tick) -> Effect
+        ensures { λ r. ⌜ r ≡ step7 e tick ⌝ }
     {
         let line = e.line;
-        if (line.status == Line::RUNNING) & made {
+        if (line.status == Line::RUNNING) & tick.made {
             return Line::detecting(e);
         }
         e
@@ -109,12 +116,12 @@ impl Line {
     }
 
     // Steps 4 to 7.
-    fn running_tick(self, active: Settings, gross: i64, rises: bool, made: bool) -> Effect
-        requires { ⌜ (setupFit (self .setup) ≡ true) × (itemFit (self .item) (self .setup) ≡ true) × (recordFit active ≡ true) × (isWeight gross ≡ true) ⌝ }
-        ensures { λ r. ⌜ r ≡ runningTick self active gross rises made ⌝ }
+    fn running_tick(self, tick: Tick) -> Effect
+        requires { ⌜ Ready self tick ⌝ }
+        ensures { λ r. ⌜ r ≡ runningTick self tick ⌝ }
     {
-        let weighed = self.step4().step5(rises).step6(active, gross);
-        Line::step7(weighed, made)
+        let weighed = self.step4().step5(tick).step6(tick);
+        Line::step7(weighed, tick)
     }
 
     pub(crate) fn sampled(self, active: Settings, s: Sample) -> Effect
@@ -136,6 +143,11 @@ impl Line {
         if mask::lowest_off(next.setup.need, next.last.safety) != 0 {
             return Effect::plain(next.with_status(Line::PAUSED, status::UNSAFE));
         }
-        next.running_tick(active, s.gross, rises, made)
+        next.running_tick(Tick {
+            active: active,
+            gross: s.gross,
+            rises: rises,
+            made: made,
+        })
     }
 }

@@ -1,6 +1,5 @@
 -- `running_tick` equals its definition `runningTick`. Assumes nothing.
 use borrow.Author.Needs.{needs}
-use mir.Facts.{toZ-ofZ}
 use Rattle.line.specs.Sample.{runningTick, step4, step5}
 use Rattle.line.proofs.line.Line.running_tick.Statement.{statement}
 use Rattle.line.proofs.line.Line.running_tick.Tie as tie
@@ -14,8 +13,8 @@ step5-requires c κs = search needs
 step6-requires : tie.Need-step6-requires
 unfolding step4 step5
 step6-requires c κs =
-    let s = c .before .before in
-    rw (c .step5 .ensures, c .before .step4 .ensures, toZ-ofZ (s .fits .gross)) (s .pre)
+    let p = c .before .before .pre in
+    rw (c .step5 .ensures, c .before .step4 .ensures) (record { setup = p .setup; item = p .item; active = p .active; gross = p .gross })
 
 step7-requires : tie.Need-step7-requires
 step7-requires c κs = search needs
@@ -23,8 +22,7 @@ step7-requires c κs = search needs
 returns : tie.Need-returns
 unfolding runningTick
 returns c =
-    let b = toZ-ofZ (c .before .before .before .before .fits .gross) in
-    simp (c .step7 .ensures, rw b at (c .before .step6 .ensures), c .before .before .step5 .ensures, c .before .before .before .step4 .ensures)
+    simp (c .step7 .ensures, c .before .step6 .ensures, c .before .before .step5 .ensures, c .before .before .before .step4 .ensures)
 
 pub running-tick-spec : {M : Type 1} → statement M
 running-tick-spec =

@@ -5,7 +5,6 @@ use mathlib.Core.Path.{sym, _∙_}
 use Rattle.event.proofs.Facts.{in-range}
 use Rattle.laws.proofs.Signed.{back}
 use Rattle.line.proofs.Facts.{fit-tells}
-use Rattle.line.proofs.Steps.{ready-step1}
 use Rattle.line.specs.Effect.{halting, halted}
 use Rattle.line.specs.Sample.{sampled, fromStep3, step2, step3, guarded, step1}
 use Rattle.line.proofs.line.Line.sampled.Statement.{statement}
@@ -58,12 +57,12 @@ returns-4 c =
     simp (c .plain2 .ensures, c .before .with-status .ensures, sym (c .before .before .before .before .before .before .before .before .before .before .before .step1 .ensures), ne-eqb _ _ (λ z. c .before .before .if4 .taken (c .before .before .before .lowest-off .ensures ∙ z)), eq-eqb _ _ (c .before .before .before .before .if3 .left), ne-eqb _ _ (c .before .before .before .before .before .before .if2 .left), ne-eqb _ _ (c .before .before .before .before .before .before .before .before .if1 .left))
 
 running-tick-requires : tie.Need-running-tick-requires
+unfolding step1
 running-tick-requires c κs =
     let s = c .before .before .before .before .before .before .before .before .before .before .before .before in
     let f = fit-tells (s .args .self) (s .pre .0) in
-    let r = ready-step1 (s .args .self) (s .args .s) (record { setup = f .setup; item = f .item }) in
     rw (c .before .before .before .before .before .before .before .before .before .before .step1 .ensures, back (s .args .s .gross) (c .struct-told .given .0 .1))
-    (r .setup, r .item, s .pre .1, in-range (s .args .s) (s .pre .2) .gross)
+    (record { setup = f .setup; item = f .item; active = s .pre .1; gross = in-range (s .args .s) (s .pre .2) .gross })
 
 returns-5 : tie.Need-returns-5
 unfolding sampled fromStep3 step2 step3 guarded
