@@ -5,16 +5,10 @@ use borrow.Author.Needs.{needs}
 use Rattle.controller.proofs.answered.Statement.{statement}
 use Rattle.controller.proofs.answered.Tie as tie
 
-put-reply-requires : tie.Need-put-reply-requires
-put-reply-requires c κs = search needs
-
-same-length : tie.Need-same-length
-same-length c = search needs
-
 returns : tie.Need-returns
 returns c =
     let said = c .before .before .put-reply .ensures in
     (ap (λ (n : ℕ). record { line = c .before .before .before .before .before .before .args .step .line; at = n }) (said .0), said .1)
 
 pub answered-spec : {M : Type 1} → statement M
-answered-spec = tie.close (tie.spec put-reply-requires same-length returns)
+answered-spec = tie.close (tie.spec (search needs) (search needs) returns)

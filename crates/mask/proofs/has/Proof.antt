@@ -13,12 +13,9 @@ returns-2 : tie.Need-returns-2
 unfolding marked
 returns-2 c = simp (le-leb _ _ (c .before .if1 .left), lt-leb _ _ (c .if2 .taken))
 
-shr-result : tie.Need-shr-result
-shr-result c = search needs
-
 returns-3 : tie.Need-returns-3
 unfolding marked
 returns-3 c = simp (le-leb _ _ (c .before .if1 .left), le-leb _ _ (c .if2 .left))
 
 pub has-spec : {M : Type 1} → statement M
-has-spec = tie.close (tie.spec returns returns-2 shr-result returns-3)
+has-spec = tie.close (tie.spec returns returns-2 (search needs) returns-3)

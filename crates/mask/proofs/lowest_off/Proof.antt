@@ -9,12 +9,6 @@ use Rattle.mask.proofs.Lowest.{none-off, some-off}
 use Rattle.mask.proofs.lowest_off.Statement.{statement}
 use Rattle.mask.proofs.lowest_off.Tie as tie
 
-cast-off : tie.Need-cast-off
-cast-off c = search needs
-
-cast-off-2 : tie.Need-cast-off-2
-cast-off-2 c = search needs
-
 returns : tie.Need-returns
 returns c = sym (none-off (c .before .args .need) (c .before .args .safety) (c .if1 .taken))
 
@@ -32,4 +26,4 @@ returns-2 : tie.Need-returns-2
 returns-2 c = sym (some-off (c .before .args .need) (c .before .args .safety) (omega arith))
 
 pub lowest-off-spec : {M : Type 1} → statement M
-lowest-off-spec = tie.close (tie.spec cast-off cast-off-2 returns cast-result add-result returns-2)
+lowest-off-spec = tie.close (tie.spec (search needs) (search needs) returns cast-result add-result returns-2)

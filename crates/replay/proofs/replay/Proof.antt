@@ -24,12 +24,6 @@ Inv-loop tallies₀ events plant₀ i₀ tallies plant i =
 abbrev μ-loop : tie.MeasureT-loop
 μ-loop tallies₀ events plant₀ i₀ tallies plant i = 64 - i
 
-clear-requires : tie.Need-clear-requires Inv-loop μ-loop
-clear-requires c κs = search needs
-
-fresh-requires : tie.Need-fresh-requires Inv-loop μ-loop
-fresh-requires c κs = search needs
-
 loop-holds : tie.Need-loop-holds Inv-loop μ-loop
 unfolding runFrom
 loop-holds c = (omega arith, search needs, refl, refl)
@@ -39,9 +33,6 @@ mul-e c = omega arith
 
 array-copy-out-e : tie.Need-array-copy-out-e Inv-loop μ-loop
 array-copy-out-e c = omega arith
-
-turn-requires : tie.Need-turn-requires Inv-loop μ-loop
-turn-requires c κs = search needs
 
 add-i : tie.Need-add-i Inv-loop μ-loop
 add-i c = omega arith
@@ -93,12 +84,11 @@ replay-spec =
     (tie.spec
     Inv-loop
     μ-loop
-    clear-requires
-    fresh-requires
+    (search needs) (search needs)
     loop-holds
     mul-e
     array-copy-out-e
-    turn-requires
+    (search needs)
     add-i
     loop-less
     loop-again

@@ -4,11 +4,8 @@ use mir.Facts.{toZ-ofZ}
 use Rattle.settings.proofs.is_load.Statement.{statement}
 use Rattle.settings.proofs.is_load.Tie as tie
 
-is-weight-requires : tie.Need-is-weight-requires
-is-weight-requires c κs = search needs
-
 returns : tie.Need-returns
 returns c = simp (c .is-weight .ensures, toZ-ofZ (c .before .fits .x))
 
 pub is-load-spec : {M : Type 1} → statement M
-is-load-spec = tie.close (tie.spec is-weight-requires returns)
+is-load-spec = tie.close (tie.spec (search needs) returns)

@@ -15,17 +15,11 @@ use Rattle.spread.proofs.apart.Tie as tie
 bounds : (c : tie.Start) → Bounded (c .args .t)
 bounds c = fit-facts (c .args .t) (c .pre) .tally .bounds
 
-size-requires : tie.Need-size-requires
-size-requires c κs = search needs
-
 -- the size of the sum
 size-is : (c : tie.After-size) → c .size .result ≡ natAbs (c .before .before .args .t .sum)
 size-is c =
     let t = c .before .before .args .t in
     rw (back (t .sum) (c .before .struct-told .given .1 .1 .1 .1 .1 .1 .1 .1 .1 .0 .1)) at (c .size .ensures)
-
-of-requires : tie.Need-of-requires
-of-requires c κs = search needs
 
 by-requires : tie.Need-by-requires
 by-requires c κs = omega (arith, bounds (c .before .before .before))
@@ -56,4 +50,4 @@ returns : tie.Need-returns
 returns c = omega (arith, nq (c .before .before .before), square-is (c .before .before))
 
 pub apart-spec : {M : Type 1} → statement M
-apart-spec = tie.close (tie.spec size-requires of-requires by-requires product-requires less-requires by-requires-2 returns)
+apart-spec = tie.close (tie.spec (search needs) (search needs) by-requires product-requires less-requires by-requires-2 returns)

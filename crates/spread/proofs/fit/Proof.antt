@@ -15,9 +15,6 @@ use Rattle.spread.specs.Figures.{reportFit}
 use Rattle.spread.proofs.fit.Statement.{statement}
 use Rattle.spread.proofs.fit.Tie as tie
 
-fit-requires : tie.Need-fit-requires
-fit-requires c κs = search needs
-
 returns : tie.Need-returns
 unfolding reportFit
 returns c =
@@ -30,9 +27,6 @@ fit-was c = sym (c .before .fit .ensures) ∙ not-false _ (c .if1 .left)
 bounds : (c : tie.Else1) → Bounded (c .before .before .args .t)
 bounds c = fit-tells (c .before .before .args .t) (fit-was c) .bounds
 
-size-requires : tie.Need-size-requires
-size-requires c κs = search needs
-
 -- the size of the sum
 size-is : (c : tie.After-size) → c .size .result ≡ natAbs (c .before .before .before .before .args .t .sum)
 size-is c =
@@ -42,14 +36,8 @@ size-is c =
 product-requires : tie.Need-product-requires
 product-requires c κs = omega (arith, size-is c, bounds (c .before .before))
 
-of-requires : tie.Need-of-requires
-of-requires c κs = search needs
-
 by-requires : tie.Need-by-requires
 by-requires c κs = omega (arith, bounds (c .before .before .before .before))
-
-at-most-requires : tie.Need-at-most-requires
-at-most-requires c κs = search needs
 
 returns-2 : tie.Need-returns-2
 unfolding reportFit
@@ -64,11 +52,11 @@ pub fit-spec : {M : Type 1} → statement M
 fit-spec =
     tie.close
     (tie.spec
-    fit-requires
+    (search needs)
     returns
-    size-requires
+    (search needs)
     product-requires
-    of-requires
+    (search needs)
     by-requires
-    at-most-requires
+    (search needs)
     returns-2)

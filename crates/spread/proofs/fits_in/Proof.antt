@@ -18,17 +18,11 @@ part c = rw (c .before .of .ensures .is) at (c .by .ensures .is)
 mul-of : tie.Need-mul-of
 mul-of c = omega (arith, square-le c)
 
-of-requires : tie.Need-of-requires
-of-requires c κs = search needs
-
 by-requires : tie.Need-by-requires
 by-requires c κs = omega (arith, square-le (c .before))
 
 by-requires-2 : tie.Need-by-requires-2
 by-requires-2 c κs = let s = c .before .before in omega (arith, part c, mul-le-mul (square-le s) (s .pre .1))
-
-at-most-requires : tie.Need-at-most-requires
-at-most-requires c κs = search needs
 
 returns : tie.Need-returns
 returns c =
@@ -37,4 +31,4 @@ returns c =
     rw e at (c .at-most .ensures)
 
 pub fits-in-spec : {M : Type 1} → statement M
-fits-in-spec = tie.close (tie.spec mul-of of-requires by-requires by-requires-2 at-most-requires returns)
+fits-in-spec = tie.close (tie.spec mul-of (search needs) by-requires by-requires-2 (search needs) returns)

@@ -19,9 +19,6 @@ use Rattle.spread.proofs.over.Tie as tie
 passed : (c : tie.Then1) → let a = c .before .before .args in (ltb 0 (a .m) ≡ true) × (reportFit (a .t) ≡ true)
 passed c = both _ _ (rw (c .before .fit .ensures) at (c .if1 .taken))
 
-fit-requires : tie.Need-fit-requires
-fit-requires c κs = search needs
-
 apart-requires : tie.Need-apart-requires
 apart-requires c κs = passed c .1
 
@@ -46,4 +43,4 @@ unfolding spreadOf
 returns-2 c = rw (← c .before .fit .ensures, c .if1 .left)
 
 pub over-spec : {M : Type 1} → statement M
-over-spec = tie.close (tie.spec fit-requires apart-requires root-requires returns returns-2)
+over-spec = tie.close (tie.spec (search needs) apart-requires root-requires returns returns-2)

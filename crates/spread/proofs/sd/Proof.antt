@@ -8,14 +8,8 @@ use Rattle.spread.proofs.sd.Tie as tie
 returns : tie.Need-returns
 returns c = sym (sd-none (c .before .before .args .t) (c .if1 .taken))
 
-sub-over : tie.Need-sub-over
-sub-over c = search needs
-
-over-requires : tie.Need-over-requires
-over-requires c κs = search needs
-
 returns-2 : tie.Need-returns-2
 returns-2 c = search needs
 
 pub sd-spec : {M : Type 1} → statement M
-sd-spec = tie.close (tie.spec returns sub-over over-requires returns-2)
+sd-spec = tie.close (tie.spec returns (search needs) (search needs) returns-2)

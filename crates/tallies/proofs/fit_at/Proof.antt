@@ -16,27 +16,6 @@ returns-2 : tie.Need-returns-2
 unfolding fitAt
 returns-2 c = rw (le-leb _ _ (c .before .if1 .left), ne-eqb _ _ (c .if2 .taken))
 
-mul-at : tie.Need-mul-at
-mul-at c = search needs
-
-add-end : tie.Need-add-end
-add-end c = search needs
-
-mul-part-fit : tie.Need-mul-part-fit
-mul-part-fit c = search needs
-
-sub-part-fit : tie.Need-sub-part-fit
-sub-part-fit c = search needs
-
-part-part-fit-start : tie.Need-part-part-fit-start
-part-part-fit-start c = search needs
-
-part-part-fit-end : tie.Need-part-part-fit-end
-part-part-fit-end c = search needs
-
-part-fit-requires : tie.Need-part-fit-requires
-part-fit-requires c κs = search needs
-
 returns-3 : tie.Need-returns-3
 unfolding fitAt part
 returns-3 c =
@@ -50,11 +29,6 @@ fit-at-spec =
     (tie.spec
     returns
     returns-2
-    mul-at
-    add-end
-    mul-part-fit
-    sub-part-fit
-    part-part-fit-start
-    part-part-fit-end
-    part-fit-requires
+    (search needs) (search needs) (search needs) (search needs) (search needs) (search needs)
+    (search needs)
     returns-3)

@@ -7,36 +7,6 @@ use Rattle.tallies.specs.Memory.{unsigned}
 use Rattle.tallies.proofs.is_unsigned.Statement.{statement}
 use Rattle.tallies.proofs.is_unsigned.Tie as tie
 
-shared-slice-copy-out-result : tie.Need-shared-slice-copy-out-result
-shared-slice-copy-out-result c = search needs
-
-shared-slice-copy-out-result-2 : tie.Need-shared-slice-copy-out-result-2
-shared-slice-copy-out-result-2 c = search needs
-
-shared-slice-copy-out-result-3 : tie.Need-shared-slice-copy-out-result-3
-shared-slice-copy-out-result-3 c = search needs
-
-shared-slice-copy-out-result-4 : tie.Need-shared-slice-copy-out-result-4
-shared-slice-copy-out-result-4 c = search needs
-
-shared-slice-copy-out-result-5 : tie.Need-shared-slice-copy-out-result-5
-shared-slice-copy-out-result-5 c = search needs
-
-shared-slice-copy-out-result-6 : tie.Need-shared-slice-copy-out-result-6
-shared-slice-copy-out-result-6 c = search needs
-
-shared-slice-copy-out-result-7 : tie.Need-shared-slice-copy-out-result-7
-shared-slice-copy-out-result-7 c = search needs
-
-shared-slice-copy-out-result-8 : tie.Need-shared-slice-copy-out-result-8
-shared-slice-copy-out-result-8 c = search needs
-
-shared-slice-copy-out-result-9 : tie.Need-shared-slice-copy-out-result-9
-shared-slice-copy-out-result-9 c = search needs
-
-shared-slice-copy-out-result-10 : tie.Need-shared-slice-copy-out-result-10
-shared-slice-copy-out-result-10 c = search needs
-
 returns : tie.Need-returns
 unfolding unsigned
 returns c =
@@ -58,14 +28,6 @@ pub is-unsigned-spec : {M : Type 1} → statement M
 is-unsigned-spec =
     tie.close
     (tie.spec
-    shared-slice-copy-out-result
-    shared-slice-copy-out-result-2
-    shared-slice-copy-out-result-3
-    shared-slice-copy-out-result-4
-    shared-slice-copy-out-result-5
-    shared-slice-copy-out-result-6
-    shared-slice-copy-out-result-7
-    shared-slice-copy-out-result-8
-    shared-slice-copy-out-result-9
-    shared-slice-copy-out-result-10
+    (search needs) (search needs) (search needs) (search needs) (search needs) (search needs)
+    (search needs) (search needs) (search needs) (search needs)
     returns)

@@ -21,39 +21,15 @@ returns c = rw (lt-leb _ _ (c .if1 .taken))
 returns-2 : tie.Need-returns-2
 returns-2 c = rw (le-leb _ _ (c .before .if1 .left), ne-eqb _ _ (c .if2 .taken))
 
-fit-requires : tie.Need-fit-requires
-fit-requires c κs = search needs
-
 returns-3 : tie.Need-returns-3
 returns-3 c =
     let h : tallyFit (c .before .before .before .before .args .t) ≡ false = sym (c .before .fit .ensures) ∙ not-true _ (c .if3 .taken) in
     rw (le-leb _ _ (c .before .before .before .if1 .left), eq-eqb _ _ (c .before .before .if2 .left), h)
 
-mul-at : tie.Need-mul-at
-mul-at c = search needs
-
-add-end : tie.Need-add-end
-add-end c = search needs
-
-mul-put : tie.Need-mul-put
-mul-put c = search needs
-
-sub-put : tie.Need-sub-put
-sub-put c = search needs
-
-part-put-start : tie.Need-part-put-start
-part-put-start c = search needs
-
-part-put-end : tie.Need-part-put-end
-part-put-end c = search needs
-
 put-requires : tie.Need-put-requires
 put-requires c κs =
     let f = fit-tells (c .before .before .before .before .before .args .t) (fit-was (c .before)) in
     (search needs, f .small, omega (arith, f .bounds .squares, f .bounds .n))
-
-same-length : tie.Need-same-length
-same-length c = search needs
 
 returns-4 : tie.Need-returns-4
 unfolding withTally
@@ -74,14 +50,9 @@ write-spec =
     (tie.spec
     returns
     returns-2
-    fit-requires
+    (search needs)
     returns-3
-    mul-at
-    add-end
-    mul-put
-    sub-put
-    part-put-start
-    part-put-end
+    (search needs) (search needs) (search needs) (search needs) (search needs) (search needs)
     put-requires
-    same-length
+    (search needs)
     returns-4)

@@ -14,23 +14,11 @@ use Rattle.undo.proofs.Laws.{untaken, taken, taken-is, takes-at, taken-
 use Rattle.undo.proofs.note.Statement.{statement}
 use Rattle.undo.proofs.note.Tie as tie
 
-fit-at-requires : tie.Need-fit-at-requires
-fit-at-requires c κs = search needs
-
-nothing-requires : tie.Need-nothing-requires
-nothing-requires c κs = search needs
-
-same-length : tie.Need-same-length
-same-length c = search needs
-
 returns : tie.Need-returns
 unfolding takesAt
 returns c =
     let h = sym (c .before .before .fit-at .ensures) ∙ not-true _ (c .before .if1 .taken) in
     (rw h (c .nothing .ensures), rw h refl)
-
-read-requires : tie.Need-read-requires
-read-requires c κs = search needs
 
 -- code's part is fit, and so the tally read is code's
 fit : (c : tie.Else1) → fitAt (now (c .before .before .before .args .tallies)) (c .before .before .before .args .code) ≡ true
@@ -46,15 +34,6 @@ before-is c =
 noted-is : (c : tie.After-noted) → c .noted .result ≡ notedOf (tallyAt (now (c .before .before .before .before .before .before .args .tallies)) (c .before .before .before .before .before .before .args .code)) (c .before .before .before .before .before .before .args .verdict) (c .before .before .before .before .before .before .args .net)
 noted-is c = rw (toZ-ofZ (c .before .before .before .before .before .before .fits .net), before-is (c .before)) at (c .noted .ensures)
 
-noted-requires : tie.Need-noted-requires
-noted-requires c κs = search needs
-
-nothing-requires-2 : tie.Need-nothing-requires-2
-nothing-requires-2 c κs = search needs
-
-same-length-2 : tie.Need-same-length-2
-same-length-2 c = search needs
-
 returns-2 : tie.Need-returns-2
 unfolding takesAt
 returns-2 c =
@@ -65,15 +44,6 @@ returns-2 c =
     let h = untaken t (a .verdict) (a .net) z in
     let f = fit (n .before .before .before) in
     (rw (f, h) (c .nothing2 .ensures), rw (f, h) refl)
-
-write-requires : tie.Need-write-requires
-write-requires c κs = search needs
-
-kept-requires : tie.Need-kept-requires
-kept-requires c κs = search needs
-
-same-length-3 : tie.Need-same-length-3
-same-length-3 c = search needs
 
 returns-3 : tie.Need-returns-3
 returns-3 c =
@@ -91,16 +61,9 @@ pub note-spec : {M : Type 1} → statement M
 note-spec =
     tie.close
     (tie.spec
-    fit-at-requires
-    nothing-requires
-    same-length
+    (search needs) (search needs) (search needs)
     returns
-    read-requires
-    noted-requires
-    nothing-requires-2
-    same-length-2
+    (search needs) (search needs) (search needs) (search needs)
     returns-2
-    write-requires
-    kept-requires
-    same-length-3
+    (search needs) (search needs) (search needs)
     returns-3)

@@ -4,11 +4,8 @@ use mir.Facts.{toZ-ofZ}
 use Rattle.weight.proofs.is_weight.Statement.{statement}
 use Rattle.weight.proofs.is_weight.Tie as tie
 
-size-requires : tie.Need-size-requires
-size-requires c κs = search needs
-
 returns : tie.Need-returns
 returns c = simp (c .size .ensures, toZ-ofZ (c .before .fits .x))
 
 pub is-weight-spec : {M : Type 1} → statement M
-is-weight-spec = tie.close (tie.spec size-requires returns)
+is-weight-spec = tie.close (tie.spec (search needs) returns)

@@ -14,12 +14,6 @@ use Rattle.weight.proofs.mean_of.Tie as tie
 returns : tie.Need-returns
 returns c = simp (eq-eqb _ _ (c .if1 .taken))
 
-size-requires : tie.Need-size-requires
-size-requires c κs = search needs
-
-quotient-requires : tie.Need-quotient-requires
-quotient-requires c κs = search needs
-
 -- what the two calls gave
 quotient-is : (c : tie.After-quotient) → c .quotient .result ≡ nearest (natAbs (c .before .before .before .args .sum)) (c .before .before .before .args .n)
 quotient-is c = rw (c .before .size .ensures, toZ-ofZ (c .before .before .before .fits .sum)) at (c .quotient .ensures)
@@ -38,4 +32,4 @@ returns-2 c =
 
 pub mean-of-spec : {M : Type 1} → statement M
 mean-of-spec =
-    tie.close (tie.spec returns size-requires quotient-requires with-sign-requires returns-2)
+    tie.close (tie.spec returns (search needs) (search needs) with-sign-requires returns-2)

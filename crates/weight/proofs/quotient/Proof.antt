@@ -9,12 +9,6 @@ use Rattle.weight.proofs.Nearest.{one-more-le}
 use Rattle.weight.proofs.quotient.Statement.{statement}
 use Rattle.weight.proofs.quotient.Tie as tie
 
-div-q : tie.Need-div-q
-div-q c = search needs
-
-rem-r : tie.Need-rem-r
-rem-r c = search needs
-
 sub-if1 : tie.Need-sub-if1
 sub-if1 c = omega (arith, mod-lt (c .args .m) (c .pre))
 
@@ -32,4 +26,4 @@ unfolding nearest
 returns-2 c = let a = c .before .args in simp (lt-leb (a .n) (2 * (a .m % a .n)) (omega arith))
 
 pub quotient-spec : {M : Type 1} → statement M
-quotient-spec = tie.close (tie.spec div-q rem-r sub-if1 add-result returns returns-2)
+quotient-spec = tie.close (tie.spec (search needs) (search needs) sub-if1 add-result returns returns-2)

@@ -31,9 +31,6 @@ returns-2 c =
     let a = c .before .before .args in
     rw (as-neg (a .z) (a .q) (lit-le (c .before .before .fits .z) (pos 0) (c .before .if1 .left)), c .if2 .taken)
 
-sub-p : tie.Need-sub-p
-sub-p c = search needs
-
 -- below 0 it is at most 2^63
 most : (c : tie.Else2) → c .before .before .args .q ≤ 2 ^ 63
 most c =
@@ -60,4 +57,4 @@ returns-3 c =
 
 pub with-sign-spec : {M : Type 1} → statement M
 with-sign-spec =
-    tie.close (tie.spec cast-result returns returns-2 sub-p cast-p sub-result returns-3)
+    tie.close (tie.spec cast-result returns returns-2 (search needs) cast-p sub-result returns-3)

@@ -15,26 +15,11 @@ Inv-loop input start i₀ i = (i ≤ length input) × (endFrom input i ≡ endFr
 abbrev μ-loop : tie.MeasureT-loop
 μ-loop input start i₀ i = length input - i
 
-near-end-requires : tie.Need-near-end-requires Inv-loop μ-loop
-near-end-requires c κs = search needs
-
-loop-holds : tie.Need-loop-holds Inv-loop μ-loop
-loop-holds c = search needs
-
-shared-slice-read-if1 : tie.Need-shared-slice-read-if1 Inv-loop μ-loop
-shared-slice-read-if1 c = search needs
-
 returns : tie.Need-returns Inv-loop μ-loop
 returns c =
     let l = c .before .before .before .loop in
     let input = c .before .before .before .before .before .before .args .input .now in
     sym (ends-here input (l .i) (search needs) (eq-eqb _ 10 (c .if1 .taken))) ∙ l .inv .1
-
-add-i : tie.Need-add-i Inv-loop μ-loop
-add-i c = search needs
-
-loop-less : tie.Need-loop-less Inv-loop μ-loop
-loop-less c = search needs
 
 loop-again : tie.Need-loop-again Inv-loop μ-loop
 loop-again c =
@@ -53,11 +38,8 @@ line-end-spec =
     (tie.spec
     Inv-loop
     μ-loop
-    near-end-requires
-    loop-holds
-    shared-slice-read-if1
+    (search needs) (search needs) (search needs)
     returns
-    add-i
-    loop-less
+    (search needs) (search needs)
     loop-again
     returns-2)

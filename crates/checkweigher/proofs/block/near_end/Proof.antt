@@ -15,35 +15,8 @@ Inv-loop input start i₀ i = (i ≤ length input) × (endFrom input i ≡ endFr
 abbrev μ-loop : tie.MeasureT-loop
 μ-loop input start i₀ i = length input - i
 
-loop-holds : tie.Need-loop-holds Inv-loop μ-loop
-loop-holds c = search needs
-
-sub-loop : tie.Need-sub-loop Inv-loop μ-loop
-sub-loop c = search needs
-
-add-has-lf : tie.Need-add-has-lf Inv-loop μ-loop
-add-has-lf c = search needs
-
-sub-has-lf : tie.Need-sub-has-lf Inv-loop μ-loop
-sub-has-lf c = search needs
-
-part-has-lf-start : tie.Need-part-has-lf-start Inv-loop μ-loop
-part-has-lf-start c = search needs
-
-part-has-lf-end : tie.Need-part-has-lf-end Inv-loop μ-loop
-part-has-lf-end c = search needs
-
-has-lf-requires : tie.Need-has-lf-requires Inv-loop μ-loop
-has-lf-requires c κs = search needs
-
 returns : tie.Need-returns Inv-loop μ-loop
 returns c = search needs
-
-add-i : tie.Need-add-i Inv-loop μ-loop
-add-i c = search needs
-
-loop-less : tie.Need-loop-less Inv-loop μ-loop
-loop-less c = search needs
 
 loop-again : tie.Need-loop-again Inv-loop μ-loop
 loop-again c =
@@ -62,15 +35,9 @@ near-end-spec =
     (tie.spec
     Inv-loop
     μ-loop
-    loop-holds
-    sub-loop
-    add-has-lf
-    sub-has-lf
-    part-has-lf-start
-    part-has-lf-end
-    has-lf-requires
+    (search needs) (search needs) (search needs) (search needs) (search needs) (search needs)
+    (search needs)
     returns
-    add-i
-    loop-less
+    (search needs) (search needs)
     loop-again
     returns-2)

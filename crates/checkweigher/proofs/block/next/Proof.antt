@@ -7,15 +7,6 @@ use Rattle.checkweigher.proofs.Bytes.{ends-last}
 use Rattle.checkweigher.proofs.block.next.Statement.{statement}
 use Rattle.checkweigher.proofs.block.next.Tie as tie
 
-add-start : tie.Need-add-start
-add-start c = search needs
-
-line-end-requires : tie.Need-line-end-requires
-line-end-requires c κs = search needs
-
-behind-requires : tie.Need-behind-requires
-behind-requires c κs = search needs
-
 returns : tie.Need-returns
 returns c = search needs
 
@@ -26,4 +17,4 @@ returns-2 c =
     (refl, λ h. absurd (search needs), (omega arith, sym (ends-last (a .input .now) n (omega arith))))
 
 pub next-spec : {M : Type 1} → statement M
-next-spec = tie.close (tie.spec add-start line-end-requires behind-requires returns returns-2)
+next-spec = tie.close (tie.spec (search needs) (search needs) (search needs) returns returns-2)

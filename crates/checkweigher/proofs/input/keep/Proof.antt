@@ -16,12 +16,6 @@ Inv-loop input₀ start end n i₀ input i =
 abbrev μ-loop : tie.MeasureT-loop
 μ-loop input₀ start end n i₀ input i = n - i
 
-sub-kept : tie.Need-sub-kept Inv-loop μ-loop
-sub-kept c = search needs
-
-kept-requires : tie.Need-kept-requires Inv-loop μ-loop
-kept-requires c κs = search needs
-
 loop-holds : tie.Need-loop-holds Inv-loop μ-loop
 loop-holds c =
     let s = c .before .before in
@@ -30,29 +24,11 @@ loop-holds c =
     let e = c .kept .ensures in
     (refl, omega (arith, e, k .0, s .pre), omega (arith, e, k .1), search needs, e, record { front = refl; behind = refl })
 
-add-input : tie.Need-add-input Inv-loop μ-loop
-add-input c = search needs
-
-slice-read-input : tie.Need-slice-read-input Inv-loop μ-loop
-slice-read-input c = search needs
-
-slice-write-input : tie.Need-slice-write-input Inv-loop μ-loop
-slice-write-input c = search needs
-
-add-i : tie.Need-add-i Inv-loop μ-loop
-add-i c = search needs
-
-loop-less : tie.Need-loop-less Inv-loop μ-loop
-loop-less c = search needs
-
 loop-again : tie.Need-loop-again Inv-loop μ-loop
 loop-again c =
     let l = c .before .before .loop in
     let a = c .before .before .before .before .before .args in
     (search needs, search needs, search needs, search needs, l .inv .4, moved-on (a .input .now) (l .input) (a .start) (l .i) (l .inv .0) (search needs) (l .inv .5))
-
-same-length : tie.Need-same-length Inv-loop μ-loop
-same-length c = search needs
 
 returns : tie.Need-returns Inv-loop μ-loop
 returns c =
@@ -68,14 +44,9 @@ keep-spec =
     (tie.spec
     Inv-loop
     μ-loop
-    sub-kept
-    kept-requires
+    (search needs) (search needs)
     loop-holds
-    add-input
-    slice-read-input
-    slice-write-input
-    add-i
-    loop-less
+    (search needs) (search needs) (search needs) (search needs) (search needs)
     loop-again
-    same-length
+    (search needs)
     returns)

@@ -21,60 +21,12 @@ Inv-loop input₀ out₀ tallies₀ line₀ settings₀ held₀ reads₀ input o
 abbrev μ-loop : tie.MeasureT-loop
 μ-loop input₀ out₀ tallies₀ line₀ settings₀ held₀ reads₀ input out tallies line settings held reads = reads
 
-large-buffer-requires : tie.Need-large-buffer-requires Inv-loop μ-loop
-large-buffer-requires c κs = search needs
-
-large-buffer-requires-2 : tie.Need-large-buffer-requires-2 Inv-loop μ-loop
-large-buffer-requires-2 c κs = search needs
-
-fresh-requires : tie.Need-fresh-requires Inv-loop μ-loop
-fresh-requires c κs = search needs
-
-blank-requires : tie.Need-blank-requires Inv-loop μ-loop
-blank-requires c κs = search needs
-
 loop-holds : tie.Need-loop-holds Inv-loop μ-loop
 unfolding zeros
 loop-holds c = (search needs, search needs, refl, omega arith, rw (c .before .fresh .ensures, c .blank .ensures) reached-fresh)
 
-slice-aggregate-read-behind : tie.Need-slice-aggregate-read-behind Inv-loop μ-loop
-slice-aggregate-read-behind c = search needs
-
-read-behind-requires : tie.Need-read-behind-requires Inv-loop μ-loop
-read-behind-requires c κs = search needs
-
-slice-aggregate-serve-last : tie.Need-slice-aggregate-serve-last Inv-loop μ-loop
-slice-aggregate-serve-last c = search needs
-
-slice-aggregate-serve-last-2 : tie.Need-slice-aggregate-serve-last-2 Inv-loop μ-loop
-slice-aggregate-serve-last-2 c = search needs
-
-slice-aggregate-serve-last-3 : tie.Need-slice-aggregate-serve-last-3 Inv-loop μ-loop
-slice-aggregate-serve-last-3 c = search needs
-
-serve-last-requires : tie.Need-serve-last-requires Inv-loop μ-loop
-serve-last-requires c κs = search needs
-
 returns : tie.Need-returns Inv-loop μ-loop
 returns c = search needs
-
-slice-aggregate-serve-read : tie.Need-slice-aggregate-serve-read Inv-loop μ-loop
-slice-aggregate-serve-read c = search needs
-
-slice-aggregate-serve-read-2 : tie.Need-slice-aggregate-serve-read-2 Inv-loop μ-loop
-slice-aggregate-serve-read-2 c = search needs
-
-slice-aggregate-serve-read-3 : tie.Need-slice-aggregate-serve-read-3 Inv-loop μ-loop
-slice-aggregate-serve-read-3 c = search needs
-
-serve-read-requires : tie.Need-serve-read-requires Inv-loop μ-loop
-serve-read-requires c κs = search needs
-
-sub-reads : tie.Need-sub-reads Inv-loop μ-loop
-sub-reads c = search needs
-
-loop-less : tie.Need-loop-less Inv-loop μ-loop
-loop-less c = search needs
 
 loop-again : tie.Need-loop-again Inv-loop μ-loop
 loop-again c =
@@ -103,23 +55,10 @@ serve-input-spec =
     (tie.spec
     Inv-loop
     μ-loop
-    large-buffer-requires
-    large-buffer-requires-2
-    fresh-requires
-    blank-requires
+    (search needs) (search needs) (search needs) (search needs)
     loop-holds
-    slice-aggregate-read-behind
-    read-behind-requires
-    slice-aggregate-serve-last
-    slice-aggregate-serve-last-2
-    slice-aggregate-serve-last-3
-    serve-last-requires
+    (search needs) (search needs) (search needs) (search needs) (search needs) (search needs)
     returns
-    slice-aggregate-serve-read
-    slice-aggregate-serve-read-2
-    slice-aggregate-serve-read-3
-    serve-read-requires
-    sub-reads
-    loop-less
+    (search needs) (search needs) (search needs) (search needs) (search needs) (search needs)
     loop-again
     returns-2)

@@ -13,18 +13,6 @@ use Rattle.event.proofs.Event.{the-type}
 use Rattle.event.proofs.Event.agrees.Statement.{statement}
 use Rattle.event.proofs.Event.agrees.Tie as tie
 
-enum-known-self : tie.Need-enum-known-self
-enum-known-self c = search needs
-
-edge-agrees-requires : tie.Need-edge-agrees-requires
-edge-agrees-requires c κs = search needs
-
-enum-known-self-2 : tie.Need-enum-known-self-2
-enum-known-self-2 c = search needs
-
-ordered-requires : tie.Need-ordered-requires
-ordered-requires c κs = search needs
-
 returns : tie.Need-returns
 unfolding eventAgrees
 returns c = simp (c .edge-agrees .ensures, c .before .before .self .given .1)
@@ -59,10 +47,7 @@ pub agrees-spec : {M : Type 1} → statement M
 agrees-spec =
     tie.close
     (tie.spec
-    enum-known-self
-    edge-agrees-requires
-    enum-known-self-2
-    ordered-requires
+    (search needs) (search needs) (search needs) (search needs)
     returns
     returns-2
     returns-3)

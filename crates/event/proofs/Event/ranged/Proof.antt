@@ -13,39 +13,6 @@ use Rattle.event.proofs.Event.{the-type}
 use Rattle.event.proofs.Event.ranged.Statement.{statement}
 use Rattle.event.proofs.Event.ranged.Tie as tie
 
-enum-known-self : tie.Need-enum-known-self
-enum-known-self c = search needs
-
-ranged-requires : tie.Need-ranged-requires
-ranged-requires c κs = search needs
-
-enum-known-self-2 : tie.Need-enum-known-self-2
-enum-known-self-2 c = search needs
-
-is-code-requires : tie.Need-is-code-requires
-is-code-requires c κs = search needs
-
-enum-known-self-3 : tie.Need-enum-known-self-3
-enum-known-self-3 c = search needs
-
-is-code-requires-2 : tie.Need-is-code-requires-2
-is-code-requires-2 c κs = search needs
-
-enum-known-self-4 : tie.Need-enum-known-self-4
-enum-known-self-4 c = search needs
-
-ranged-requires-2 : tie.Need-ranged-requires-2
-ranged-requires-2 c κs = search needs
-
-enum-known-self-5 : tie.Need-enum-known-self-5
-enum-known-self-5 c = search needs
-
-is-code-requires-3 : tie.Need-is-code-requires-3
-is-code-requires-3 c κs = search needs
-
-ranged-requires-3 : tie.Need-ranged-requires-3
-ranged-requires-3 c κs = search needs
-
 returns : tie.Need-returns
 unfolding eventRanged
 returns c = simp (c .ranged .ensures, c .before .before .self .given .1)
@@ -92,17 +59,8 @@ pub ranged-spec : {M : Type 1} → statement M
 ranged-spec =
     tie.close
     (tie.spec
-    enum-known-self
-    ranged-requires
-    enum-known-self-2
-    is-code-requires
-    enum-known-self-3
-    is-code-requires-2
-    enum-known-self-4
-    ranged-requires-2
-    enum-known-self-5
-    is-code-requires-3
-    ranged-requires-3
+    (search needs) (search needs) (search needs) (search needs) (search needs) (search needs)
+    (search needs) (search needs) (search needs) (search needs) (search needs)
     returns
     returns-2
     returns-3

@@ -5,9 +5,6 @@ use Rattle.event.specs.Sample.{sampleRanged}
 use Rattle.event.proofs.Sample.ranged.Statement.{statement}
 use Rattle.event.proofs.Sample.ranged.Tie as tie
 
-is-weight-requires : tie.Need-is-weight-requires
-is-weight-requires c κs = search needs
-
 returns : tie.Need-returns
 unfolding sampleRanged
 returns c =
@@ -15,4 +12,4 @@ returns c =
     simp (c .is-weight .ensures, back (s .gross) (c .before .struct-told .given .0 .1))
 
 pub ranged-spec : {M : Type 1} → statement M
-ranged-spec = tie.close (tie.spec is-weight-requires returns)
+ranged-spec = tie.close (tie.spec (search needs) returns)

@@ -3,14 +3,8 @@ use borrow.Author.Needs.{needs}
 use Rattle.event.proofs.Setup.fit.Statement.{statement}
 use Rattle.event.proofs.Setup.fit.Tie as tie
 
-ranged-requires : tie.Need-ranged-requires
-ranged-requires c κs = search needs
-
-edge-agrees-requires : tie.Need-edge-agrees-requires
-edge-agrees-requires c κs = search needs
-
 returns : tie.Need-returns
 returns c = simp (c .before .ranged .ensures, c .edge-agrees .ensures)
 
 pub fit-spec : {M : Type 1} → statement M
-fit-spec = tie.close (tie.spec ranged-requires edge-agrees-requires returns)
+fit-spec = tie.close (tie.spec (search needs) (search needs) returns)

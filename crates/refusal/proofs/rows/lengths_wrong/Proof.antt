@@ -4,12 +4,9 @@ use Rattle.refusal.specs.Rows.{lengthsWrong}
 use Rattle.refusal.proofs.rows.lengths_wrong.Statement.{statement}
 use Rattle.refusal.proofs.rows.lengths_wrong.Tie as tie
 
-all-there-requires : tie.Need-all-there-requires
-all-there-requires c κs = search needs
-
 returns : tie.Need-returns
 unfolding lengthsWrong
 returns c = rw (c .all-there .ensures)
 
 pub lengths-wrong-spec : {M : Type 1} → statement M
-lengths-wrong-spec = tie.close (tie.spec all-there-requires returns)
+lengths-wrong-spec = tie.close (tie.spec (search needs) returns)

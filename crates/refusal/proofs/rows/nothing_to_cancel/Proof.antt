@@ -4,12 +4,9 @@ use Rattle.refusal.specs.Rows.{nothingToCancel}
 use Rattle.refusal.proofs.rows.nothing_to_cancel.Statement.{statement}
 use Rattle.refusal.proofs.rows.nothing_to_cancel.Tie as tie
 
-kind-requires : tie.Need-kind-requires
-kind-requires c κs = search needs
-
 returns : tie.Need-returns
 unfolding nothingToCancel
 returns c = simp (c .kind .ensures)
 
 pub nothing-to-cancel-spec : {M : Type 1} → statement M
-nothing-to-cancel-spec = tie.close (tie.spec kind-requires returns)
+nothing-to-cancel-spec = tie.close (tie.spec (search needs) returns)

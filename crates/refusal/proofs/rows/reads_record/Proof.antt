@@ -4,12 +4,9 @@ use Rattle.refusal.specs.Rows.{readsRecord}
 use Rattle.refusal.proofs.rows.reads_record.Statement.{statement}
 use Rattle.refusal.proofs.rows.reads_record.Tie as tie
 
-kind-requires : tie.Need-kind-requires
-kind-requires c κs = search needs
-
 returns : tie.Need-returns
 unfolding readsRecord
 returns c = simp (c .kind .ensures)
 
 pub reads-record-spec : {M : Type 1} → statement M
-reads-record-spec = tie.close (tie.spec kind-requires returns)
+reads-record-spec = tie.close (tie.spec (search needs) returns)

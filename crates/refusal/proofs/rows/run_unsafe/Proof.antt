@@ -4,12 +4,9 @@ use Rattle.refusal.specs.Rows.{runUnsafe}
 use Rattle.refusal.proofs.rows.run_unsafe.Statement.{statement}
 use Rattle.refusal.proofs.rows.run_unsafe.Tie as tie
 
-kind-requires : tie.Need-kind-requires
-kind-requires c κs = search needs
-
 returns : tie.Need-returns
 unfolding runUnsafe
 returns c = simp (c .kind .ensures)
 
 pub run-unsafe-spec : {M : Type 1} → statement M
-run-unsafe-spec = tie.close (tie.spec kind-requires returns)
+run-unsafe-spec = tie.close (tie.spec (search needs) returns)

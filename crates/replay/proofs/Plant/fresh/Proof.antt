@@ -4,14 +4,8 @@ use mathlib.Core.Path.{refl}
 use Rattle.replay.proofs.Plant.fresh.Statement.{statement}
 use Rattle.replay.proofs.Plant.fresh.Tie as tie
 
-fresh-requires : tie.Need-fresh-requires
-fresh-requires c κs = search needs
-
-blank-requires : tie.Need-blank-requires
-blank-requires c κs = search needs
-
 returns : tie.Need-returns
 returns c = rw (c .blank .ensures, c .before .fresh .ensures) refl
 
 pub fresh-spec : {M : Type 1} → statement M
-fresh-spec = tie.close (tie.spec fresh-requires blank-requires returns)
+fresh-spec = tie.close (tie.spec (search needs) (search needs) returns)

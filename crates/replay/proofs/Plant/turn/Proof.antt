@@ -7,12 +7,6 @@ use Rattle.replay.proofs.Fold.{follows}
 use Rattle.replay.proofs.Plant.turn.Statement.{statement}
 use Rattle.replay.proofs.Plant.turn.Tie as tie
 
-lend-records-requires : tie.Need-lend-records-requires
-lend-records-requires c κs = search needs
-
-same-length : tie.Need-same-length
-same-length c = search needs
-
 returns : tie.Need-returns
 returns c =
     let t = c .before .before .before .before .lend-records in
@@ -25,4 +19,4 @@ returns c =
     (answer, (t .ensures .1, follows before e r _ answer (t .ensures .1)))
 
 pub turn-spec : {M : Type 1} → statement M
-turn-spec = tie.close (tie.spec lend-records-requires same-length returns)
+turn-spec = tie.close (tie.spec (search needs) (search needs) returns)

@@ -5,27 +5,6 @@ use Rattle.settings.specs.Settings.{recordRanged}
 use Rattle.settings.proofs.Settings.ranged.Statement.{statement}
 use Rattle.settings.proofs.Settings.ranged.Tie as tie
 
-is-weight-requires : tie.Need-is-weight-requires
-is-weight-requires c κs = search needs
-
-is-weight-requires-2 : tie.Need-is-weight-requires-2
-is-weight-requires-2 c κs = search needs
-
-is-weight-requires-3 : tie.Need-is-weight-requires-3
-is-weight-requires-3 c κs = search needs
-
-is-weight-requires-4 : tie.Need-is-weight-requires-4
-is-weight-requires-4 c κs = search needs
-
-is-weight-requires-5 : tie.Need-is-weight-requires-5
-is-weight-requires-5 c κs = search needs
-
-is-load-requires : tie.Need-is-load-requires
-is-load-requires c κs = search needs
-
-is-load-requires-2 : tie.Need-is-load-requires-2
-is-load-requires-2 c κs = search needs
-
 returns : tie.Need-returns
 unfolding recordRanged
 returns c =
@@ -52,11 +31,6 @@ pub ranged-spec : {M : Type 1} → statement M
 ranged-spec =
     tie.close
     (tie.spec
-    is-weight-requires
-    is-weight-requires-2
-    is-weight-requires-3
-    is-weight-requires-4
-    is-weight-requires-5
-    is-load-requires
-    is-load-requires-2
+    (search needs) (search needs) (search needs) (search needs) (search needs) (search needs)
+    (search needs)
     returns)

@@ -4,24 +4,6 @@ use Rattle.sheet.specs.Report.{memoryWrong}
 use Rattle.sheet.proofs.answer.memory_wrong.Statement.{statement}
 use Rattle.sheet.proofs.answer.memory_wrong.Tie as tie
 
-lengths-wrong-requires : tie.Need-lengths-wrong-requires
-lengths-wrong-requires c κs = search needs
-
-is-code-requires : tie.Need-is-code-requires
-is-code-requires c κs = search needs
-
-fit-requires : tie.Need-fit-requires
-fit-requires c κs = search needs
-
-fit-at-requires : tie.Need-fit-at-requires
-fit-at-requires c κs = search needs
-
-read-requires : tie.Need-read-requires
-read-requires c κs = search needs
-
-fit-requires-2 : tie.Need-fit-requires-2
-fit-requires-2 c κs = search needs
-
 returns : tie.Need-returns
 unfolding memoryWrong
 returns c =
@@ -40,10 +22,5 @@ pub memory-wrong-spec : {M : Type 1} → statement M
 memory-wrong-spec =
     tie.close
     (tie.spec
-    lengths-wrong-requires
-    is-code-requires
-    fit-requires
-    fit-at-requires
-    read-requires
-    fit-requires-2
+    (search needs) (search needs) (search needs) (search needs) (search needs) (search needs)
     returns)

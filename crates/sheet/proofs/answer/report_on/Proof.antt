@@ -10,12 +10,6 @@ use Rattle.sheet.proofs.Printed.{Printed, printed-tells}
 use Rattle.sheet.proofs.answer.report_on.Statement.{statement}
 use Rattle.sheet.proofs.answer.report_on.Tie as tie
 
-report-refusal-requires : tie.Need-report-refusal-requires
-report-refusal-requires c κs = search needs
-
-blank-requires : tie.Need-blank-requires
-blank-requires c κs = search needs
-
 returns : tie.Need-returns
 unfolding reportOf
 returns c = rw (c .blank .ensures, ← c .before .before .report-refusal .ensures, ne-eqb _ _ (c .before .if1 .taken))
@@ -26,9 +20,6 @@ number-is c = sym (c .before .report-refusal .ensures) ∙ c .if1 .left
 
 told : (c : tie.Else1) → let a = c .before .before .args in Printed (a .own) (now (a .tallies)) (a .code)
 told c = let a = c .before .before .args in printed-tells (a .count) (a .own) (now (a .tallies)) (a .code) (number-is c)
-
-read-requires : tie.Need-read-requires
-read-requires c κs = search needs
 
 sheet-of-requires : tie.Need-sheet-of-requires
 sheet-of-requires c κs =
@@ -52,9 +43,8 @@ pub report-on-spec : {M : Type 1} → statement M
 report-on-spec =
     tie.close
     (tie.spec
-    report-refusal-requires
-    blank-requires
+    (search needs) (search needs)
     returns
-    read-requires
+    (search needs)
     sheet-of-requires
     returns-2)

@@ -11,12 +11,6 @@ use Rattle.laws.proofs.Signed.{sub-fits, sub-back}
 use Rattle.sheet.proofs.sheet.deviation_of.Statement.{statement}
 use Rattle.sheet.proofs.sheet.deviation_of.Tie as tie
 
-enum-known-mean : tie.Need-enum-known-mean
-enum-known-mean c = search needs
-
-enum-told : tie.Need-enum-told
-enum-told c = search needs
-
 returns : tie.Need-returns
 returns c = search needs
 
@@ -39,4 +33,4 @@ returns-2 c =
     (simp (c .before .mean .given .1))
 
 pub deviation-of-spec : {M : Type 1} → statement M
-deviation-of-spec = tie.close (tie.spec enum-known-mean enum-told returns sub-t4 returns-2)
+deviation-of-spec = tie.close (tie.spec (search needs) (search needs) returns sub-t4 returns-2)

@@ -13,35 +13,17 @@ use Rattle.sheet.proofs.sheet.sheet_of.Tie as tie
 total-of-requires : tie.Need-total-of-requires
 total-of-requires c κs = fit-facts (c .args .t) (c .pre .0) .tally .verdicts
 
-mean-of-requires : tie.Need-mean-of-requires
-mean-of-requires c κs = search needs
-
 -- the mean is that of the sum
 mean-is : (c : tie.After-mean-of) → let t = c .before .before .before .args .t in c .mean-of .result ≡ meanOf (t .sum) (t .n)
 mean-is c =
     let t = c .before .before .before .args .t in
     rw (back (t .sum) (c .before .struct-told .given .1 .1 .1 .1 .1 .1 .1 .1 .1 .0 .1)) at (c .mean-of .ensures)
 
-sub-t5 : tie.Need-sub-t5
-sub-t5 c = search needs
-
-unless-none-requires : tie.Need-unless-none-requires
-unless-none-requires c κs = search needs
-
-unless-none-requires-2 : tie.Need-unless-none-requires-2
-unless-none-requires-2 c κs = search needs
-
 deviation-of-requires : tie.Need-deviation-of-requires
 deviation-of-requires c κs =
     let m = c .before .before .before .before .before in
     let s = m .before .before .before in
     (rw (mean-is m) (mean-within (s .args .t) (s .pre .0)), rw (toZ-ofZ (s .fits .target)) (s .pre .1))
-
-sd-requires : tie.Need-sd-requires
-sd-requires c κs = search needs
-
-sdp-requires : tie.Need-sdp-requires
-sdp-requires c κs = search needs
 
 returns : tie.Need-returns
 unfolding sheetOf
@@ -71,11 +53,7 @@ sheet-of-spec =
     tie.close
     (tie.spec
     total-of-requires
-    mean-of-requires
-    sub-t5
-    unless-none-requires
-    unless-none-requires-2
+    (search needs) (search needs) (search needs) (search needs)
     deviation-of-requires
-    sd-requires
-    sdp-requires
+    (search needs) (search needs)
     returns)

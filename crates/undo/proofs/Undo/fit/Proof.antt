@@ -9,12 +9,9 @@ returns : tie.Need-returns
 unfolding undoFit
 returns c = rw (eq-eqb _ _ (c .if1 .taken))
 
-fit-requires : tie.Need-fit-requires
-fit-requires c κs = search needs
-
 returns-2 : tie.Need-returns-2
 unfolding undoFit
 returns-2 c = rw (ne-eqb _ _ (c .before .before .if1 .left)) (c .fit .ensures)
 
 pub fit-spec : {M : Type 1} → statement M
-fit-spec = tie.close (tie.spec returns fit-requires returns-2)
+fit-spec = tie.close (tie.spec returns (search needs) returns-2)

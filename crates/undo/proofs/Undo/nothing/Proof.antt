@@ -3,11 +3,8 @@ use borrow.Author.Needs.{needs}
 use Rattle.undo.proofs.Undo.nothing.Statement.{statement}
 use Rattle.undo.proofs.Undo.nothing.Tie as tie
 
-empty-requires : tie.Need-empty-requires
-empty-requires c κs = search needs
-
 returns : tie.Need-returns
 returns c = simp (c .empty .ensures)
 
 pub nothing-spec : {M : Type 1} → statement M
-nothing-spec = tie.close (tie.spec empty-requires returns)
+nothing-spec = tie.close (tie.spec (search needs) returns)

@@ -22,12 +22,9 @@ returns-2 : tie.Need-returns-2
 unfolding delayFallen
 returns-2 c = simp (eq-eqb _ _ (c .if2 .taken), c .if2 .taken)
 
-sub-t3 : tie.Need-sub-t3
-sub-t3 c = search needs
-
 returns-3 : tie.Need-returns-3
 unfolding delayFallen
 returns-3 c = simp (ne-eqb _ _ (c .before .if2 .left))
 
 pub fallen-spec : {M : Type 1} → statement M
-fallen-spec = tie.close (tie.spec returns returns-2 sub-t3 returns-3)
+fallen-spec = tie.close (tie.spec returns returns-2 (search needs) returns-3)

@@ -7,12 +7,6 @@ use borrow.Author.Needs.{needs}
 use Rattle.device.proofs.foreign.Foreign.signalled.Statement.{statement}
 use Rattle.device.proofs.foreign.Foreign.signalled.Tie as tie
 
-due-requires : tie.Need-due-requires
-due-requires c κs = search needs
-
-started-requires : tie.Need-started-requires
-started-requires c κs = search needs
-
 returns : tie.Need-returns
 unfolding signalled
 returns c = let f = c .before .before .before .before .args .self in
@@ -26,4 +20,4 @@ returns-2 c = let f = c .before .before .before .args .self in
     simp e
 
 pub signalled-spec : {M : Type 1} → statement M
-signalled-spec = tie.close (tie.spec due-requires started-requires returns returns-2)
+signalled-spec = tie.close (tie.spec (search needs) (search needs) returns returns-2)

@@ -4,18 +4,9 @@ use borrow.Author.Needs.{needs}
 use Rattle.device.proofs.foreign.Foreign.ticked.Statement.{statement}
 use Rattle.device.proofs.foreign.Foreign.ticked.Tie as tie
 
-fallen-requires : tie.Need-fallen-requires
-fallen-requires c κs = search needs
-
-signalled-requires : tie.Need-signalled-requires
-signalled-requires c κs = search needs
-
 returns : tie.Need-returns
 unfolding foreignTicked
 returns c = simp (c .signalled .ensures, c .before .fallen .ensures, c .before .before .if1 .taken)
-
-fallen-requires-2 : tie.Need-fallen-requires-2
-fallen-requires-2 c κs = search needs
 
 returns-2 : tie.Need-returns-2
 unfolding foreignTicked
@@ -23,4 +14,4 @@ returns-2 c = simp (c .fallen2 .ensures, c .before .if1 .left)
 
 pub ticked-spec : {M : Type 1} → statement M
 ticked-spec =
-    tie.close (tie.spec fallen-requires signalled-requires returns fallen-requires-2 returns-2)
+    tie.close (tie.spec (search needs) (search needs) returns (search needs) returns-2)

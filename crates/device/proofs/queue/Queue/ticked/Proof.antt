@@ -28,9 +28,6 @@ returns c =
     let e : isEmpty q ≡ true = sym (empty-is q (search needs)) ∙ eq-eqb (q .n) 0 (c .if1 .taken) in
     rw e
 
-waiting-requires : tie.Need-waiting-requires Inv-loop μ-loop
-waiting-requires c κs = search needs
-
 loop-holds : tie.Need-loop-holds Inv-loop μ-loop
 loop-holds c =
     let q = c .before .before .before .before .args .self in
@@ -90,7 +87,7 @@ ticked-spec =
     Inv-loop
     μ-loop
     returns
-    waiting-requires
+    (search needs)
     loop-holds
     mul-wait
     array-read-wait

@@ -17,17 +17,11 @@ returns-2 c =
     let a = c .before .before .before .args in
     simp (ne-eqb _ _ (c .before .if1 .left), le-leb (max 1 (a .tc)) (a .self .run + 1) (omega arith))
 
-sub-if3 : tie.Need-sub-if3
-sub-if3 c = search needs
-
 returns-3 : tie.Need-returns-3
 unfolding settled
 returns-3 c =
     let a = c .before .before .before .before .before .args in
     simp (ne-eqb _ _ (c .before .before .before .if1 .left), le-leb (max 1 (a .tc)) (a .self .run + 1) (omega arith))
-
-add-t5 : tie.Need-add-t5
-add-t5 c = search needs
 
 returns-4 : tie.Need-returns-4
 unfolding settled
@@ -36,4 +30,4 @@ returns-4 c =
     simp (ne-eqb _ _ (c .before .before .before .before .if1 .left), lt-leb (max 1 (a .tc)) (a .self .run + 1) (omega arith))
 
 pub settled-spec : {M : Type 1} → statement M
-settled-spec = tie.close (tie.spec returns returns-2 sub-if3 returns-3 add-t5 returns-4)
+settled-spec = tie.close (tie.spec returns returns-2 (search needs) returns-3 (search needs) returns-4)

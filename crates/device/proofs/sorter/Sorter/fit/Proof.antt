@@ -4,12 +4,9 @@ use borrow.Author.Needs.{needs}
 use Rattle.device.proofs.sorter.Sorter.fit.Statement.{statement}
 use Rattle.device.proofs.sorter.Sorter.fit.Tie as tie
 
-fit-requires : tie.Need-fit-requires
-fit-requires c κs = search needs
-
 returns : tie.Need-returns
 unfolding sorterFit
 returns c = simp (c .before .fit .ensures)
 
 pub fit-spec : {M : Type 1} → statement M
-fit-spec = tie.close (tie.spec fit-requires returns)
+fit-spec = tie.close (tie.spec (search needs) returns)

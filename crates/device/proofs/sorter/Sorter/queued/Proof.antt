@@ -4,12 +4,9 @@ use borrow.Author.Needs.{needs}
 use Rattle.device.proofs.sorter.Sorter.queued.Statement.{statement}
 use Rattle.device.proofs.sorter.Sorter.queued.Tie as tie
 
-joined-requires : tie.Need-joined-requires
-joined-requires c κs = search needs
-
 returns : tie.Need-returns
 unfolding queued
 returns c = simp (c .joined .ensures)
 
 pub queued-spec : {M : Type 1} → statement M
-queued-spec = tie.close (tie.spec joined-requires returns)
+queued-spec = tie.close (tie.spec (search needs) returns)

@@ -8,24 +8,15 @@ use borrow.Author.Needs.{needs}
 use Rattle.device.proofs.sorter.Sorter.ticked.Statement.{statement}
 use Rattle.device.proofs.sorter.Sorter.ticked.Tie as tie
 
-is-empty-requires : tie.Need-is-empty-requires
-is-empty-requires c κs = search needs
-
-fallen-requires : tie.Need-fallen-requires
-fallen-requires c κs = search needs
-
 returns : tie.Need-returns
 unfolding sorterTicked
 returns c = let q = c .before .before .before .before .args .self .queue in
     let e : isEmpty q ≡ true = sym (c .before .before .is-empty .ensures) ∙ c .before .if1 .taken in
     rw (empty-stays q e, none-ends q e, c .fallen .ensures)
 
-waits-ticked-requires : tie.Need-waits-ticked-requires
-waits-ticked-requires c κs = search needs
-
 returns-2 : tie.Need-returns-2
 returns-2 c = c .waits-ticked .ensures
 
 pub ticked-spec : {M : Type 1} → statement M
 ticked-spec =
-    tie.close (tie.spec is-empty-requires fallen-requires returns waits-ticked-requires returns-2)
+    tie.close (tie.spec (search needs) (search needs) returns (search needs) returns-2)

@@ -10,15 +10,6 @@ use Rattle.device.proofs.Waits.{ends-fewer}
 use Rattle.device.proofs.sorter.Sorter.waits_ticked.Statement.{statement}
 use Rattle.device.proofs.sorter.Sorter.waits_ticked.Tie as tie
 
-ticked-requires : tie.Need-ticked-requires
-ticked-requires c κs = search needs
-
-waiting-requires : tie.Need-waiting-requires
-waiting-requires c κs = search needs
-
-waiting-requires-2 : tie.Need-waiting-requires-2
-waiting-requires-2 c κs = search needs
-
 returns : tie.Need-returns
 unfolding sorterTicked
 returns c =
@@ -27,9 +18,6 @@ returns c =
     let n = c .before .before .waiting .ensures ∙ ap waiting t in
     let e : oneEnds q ≡ true = ends-fewer q ∙ lt-ltb (waiting (queueTicked q)) (waiting q) (omega (arith, n, c .before .waiting2 .ensures, c .if1 .taken)) in
     simp (t, e)
-
-fallen-requires : tie.Need-fallen-requires
-fallen-requires c κs = search needs
 
 returns-2 : tie.Need-returns-2
 unfolding sorterTicked
@@ -44,9 +32,7 @@ pub waits-ticked-spec : {M : Type 1} → statement M
 waits-ticked-spec =
     tie.close
     (tie.spec
-    ticked-requires
-    waiting-requires
-    waiting-requires-2
+    (search needs) (search needs) (search needs)
     returns
-    fallen-requires
+    (search needs)
     returns-2)

@@ -5,18 +5,6 @@ use Rattle.line.specs.Tallying.{noted}
 use Rattle.line.proofs.effect.Effect.noted.Statement.{statement}
 use Rattle.line.proofs.effect.Effect.noted.Tie as tie
 
-note-requires : tie.Need-note-requires
-note-requires c κs = search needs
-
-with-undo-requires : tie.Need-with-undo-requires
-with-undo-requires c κs = search needs
-
-replied-requires : tie.Need-replied-requires
-replied-requires c κs = search needs
-
-same-length : tie.Need-same-length
-same-length c = search needs
-
 returns : tie.Need-returns
 unfolding noted
 returns c =
@@ -26,4 +14,4 @@ returns c =
 
 pub noted-spec : {M : Type 1} → statement M
 noted-spec =
-    tie.close (tie.spec note-requires with-undo-requires replied-requires same-length returns)
+    tie.close (tie.spec (search needs) (search needs) (search needs) (search needs) returns)

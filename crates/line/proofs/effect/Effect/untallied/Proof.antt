@@ -3,11 +3,8 @@ use borrow.Author.Needs.{needs}
 use Rattle.line.proofs.effect.Effect.untallied.Statement.{statement}
 use Rattle.line.proofs.effect.Effect.untallied.Tie as tie
 
-replied-requires : tie.Need-replied-requires
-replied-requires c κs = search needs
-
 returns : tie.Need-returns
 returns c = simp (c .replied .ensures)
 
 pub untallied-spec : {M : Type 1} → statement M
-untallied-spec = tie.close (tie.spec replied-requires returns)
+untallied-spec = tie.close (tie.spec (search needs) returns)

@@ -12,24 +12,12 @@ use Rattle.line.specs.Fit.{itemFit}
 use Rattle.line.proofs.item.Item.fit.Statement.{statement}
 use Rattle.line.proofs.item.Item.fit.Tie as tie
 
-enum-told : tie.Need-enum-told
-enum-told c = search needs
-
-enum-known-self : tie.Need-enum-known-self
-enum-known-self c = search needs
-
-enum-known-self-2 : tie.Need-enum-known-self-2
-enum-known-self-2 c = search needs
-
 returns : tie.Need-returns
 unfolding itemFit
 returns c =
     let k = c .before .before .before .self2 .given .0 .0 in
     let ta = c .before .before .before .before .before .args .setup .ta in
     simp (c .before .before .before .self2 .given .1, not-true (within 1 ta k) (c .if1 .taken))
-
-size-requires : tie.Need-size-requires
-size-requires c κs = search needs
 
 -- the ticks left are at most ta
 most : (c : tie.After-struct-known3) → c .before .before .before .before .before .self2 .given .0 .0 ≤ c .before .before .before .before .before .before .before .args .setup .ta
@@ -66,11 +54,9 @@ pub fit-spec : {M : Type 1} → statement M
 fit-spec =
     tie.close
     (tie.spec
-    enum-told
-    enum-known-self
-    enum-known-self-2
+    (search needs) (search needs) (search needs)
     returns
-    size-requires
+    (search needs)
     sub-result
     mul-result
     returns-2

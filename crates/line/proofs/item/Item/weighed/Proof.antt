@@ -16,21 +16,9 @@ use Rattle.line.specs.Sample.{weighed}
 use Rattle.line.proofs.item.Item.weighed.Statement.{statement}
 use Rattle.line.proofs.item.Item.weighed.Tie as tie
 
-enum-told : tie.Need-enum-told
-enum-told c = search needs
-
-enum-known-self : tie.Need-enum-known-self
-enum-known-self c = search needs
-
-sub-t13 : tie.Need-sub-t13
-sub-t13 c = search needs
-
 returns : tie.Need-returns
 unfolding weighed
 returns c = simp (c .before .before .self .given .1, lt-ltb _ _ (c .if1 .taken))
-
-enum-known-self-2 : tie.Need-enum-known-self-2
-enum-known-self-2 c = search needs
 
 -- the sum of an averaging item, and the code's sum of it and the gross
 record Sum (c : tie.After-known-told2) : Type 0 where
@@ -51,21 +39,9 @@ sum-of c =
 add-total : tie.Need-add-total
 add-total c = let p = sum-of c in add-fits _ _ (p .fits) (c .before .before .before .fits .gross) (p .room)
 
-sub-t17 : tie.Need-sub-t17
-sub-t17 c = search needs
-
 returns-2 : tie.Need-returns-2
 unfolding weighed
 returns-2 c = rw (sum-of (c .before) .is) (simp (c .before .before .self2 .given .1, lt-ltb _ _ (c .if2 .taken)))
-
-mean-of-requires : tie.Need-mean-of-requires
-mean-of-requires c κs = search needs
-
-enum-known-mean : tie.Need-enum-known-mean
-enum-known-mean c = search needs
-
-enum-told-2 : tie.Need-enum-told-2
-enum-told-2 c = search needs
 
 returns-3 : tie.Need-returns-3
 unfolding weighed
@@ -99,17 +75,13 @@ pub weighed-spec : {M : Type 1} → statement M
 weighed-spec =
     tie.close
     (tie.spec
-    enum-told
-    enum-known-self
-    sub-t13
+    (search needs) (search needs) (search needs)
     returns
-    enum-known-self-2
+    (search needs)
     add-total
-    sub-t17
+    (search needs)
     returns-2
-    mean-of-requires
-    enum-known-mean
-    enum-told-2
+    (search needs) (search needs) (search needs)
     returns-3
     returns-4
     returns-5

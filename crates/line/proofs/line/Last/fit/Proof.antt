@@ -5,9 +5,6 @@ use Rattle.line.specs.Fit.{lastFit}
 use Rattle.line.proofs.line.Last.fit.Statement.{statement}
 use Rattle.line.proofs.line.Last.fit.Tie as tie
 
-is-weight-requires : tie.Need-is-weight-requires
-is-weight-requires c κs = search needs
-
 returns : tie.Need-returns
 unfolding lastFit
 returns c =
@@ -15,4 +12,4 @@ returns c =
     simp (rw b at (c .before .before .is-weight .ensures))
 
 pub fit-spec : {M : Type 1} → statement M
-fit-spec = tie.close (tie.spec is-weight-requires returns)
+fit-spec = tie.close (tie.spec (search needs) returns)

@@ -4,12 +4,9 @@ use Rattle.line.specs.Command.{alarmed}
 use Rattle.line.proofs.line.Line.alarmed.Statement.{statement}
 use Rattle.line.proofs.line.Line.alarmed.Tie as tie
 
-halting-requires : tie.Need-halting-requires
-halting-requires c κs = search needs
-
 returns : tie.Need-returns
 unfolding alarmed
 returns c = simp (c .halting .ensures)
 
 pub alarmed-spec : {M : Type 1} → statement M
-alarmed-spec = tie.close (tie.spec halting-requires returns)
+alarmed-spec = tie.close (tie.spec (search needs) returns)

@@ -3,24 +3,6 @@ use borrow.Author.Needs.{needs}
 use Rattle.line.proofs.line.Line.clear_all.Statement.{statement}
 use Rattle.line.proofs.line.Line.clear_all.Tie as tie
 
-clear-requires : tie.Need-clear-requires
-clear-requires c κs = search needs
-
-nothing-requires : tie.Need-nothing-requires
-nothing-requires c κs = search needs
-
-with-undo-requires : tie.Need-with-undo-requires
-with-undo-requires c κs = search needs
-
-plain-requires : tie.Need-plain-requires
-plain-requires c κs = search needs
-
-untallied-requires : tie.Need-untallied-requires
-untallied-requires c κs = search needs
-
-same-length : tie.Need-same-length
-same-length c = search needs
-
 returns : tie.Need-returns
 returns c = (simp (c .untallied .ensures, c .before .plain .ensures, c .before .before .with-undo .ensures, c .before .before .before .nothing .ensures), c .before .before .before .before .before .clear .ensures)
 
@@ -28,10 +10,5 @@ pub clear-all-spec : {M : Type 1} → statement M
 clear-all-spec =
     tie.close
     (tie.spec
-    clear-requires
-    nothing-requires
-    with-undo-requires
-    plain-requires
-    untallied-requires
-    same-length
+    (search needs) (search needs) (search needs) (search needs) (search needs) (search needs)
     returns)

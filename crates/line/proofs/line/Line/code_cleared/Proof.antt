@@ -5,12 +5,6 @@ use Rattle.line.specs.Tallying.{codeCleared}
 use Rattle.line.proofs.line.Line.code_cleared.Statement.{statement}
 use Rattle.line.proofs.line.Line.code_cleared.Tie as tie
 
-nothing-requires : tie.Need-nothing-requires
-nothing-requires c κs = search needs
-
-with-undo-requires : tie.Need-with-undo-requires
-with-undo-requires c κs = search needs
-
 returns : tie.Need-returns
 unfolding codeCleared
 returns c = simp (c .with-undo .ensures, c .before .nothing .ensures, eq-eqb _ _ (c .before .before .if1 .taken))
@@ -20,4 +14,4 @@ unfolding codeCleared
 returns-2 c = simp (ne-eqb _ _ (c .if1 .left))
 
 pub code-cleared-spec : {M : Type 1} → statement M
-code-cleared-spec = tie.close (tie.spec nothing-requires with-undo-requires returns returns-2)
+code-cleared-spec = tie.close (tie.spec (search needs) (search needs) returns returns-2)

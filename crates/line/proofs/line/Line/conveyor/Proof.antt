@@ -4,12 +4,9 @@ use Rattle.line.specs.Line.{conveyor}
 use Rattle.line.proofs.line.Line.conveyor.Statement.{statement}
 use Rattle.line.proofs.line.Line.conveyor.Tie as tie
 
-in-hand-requires : tie.Need-in-hand-requires
-in-hand-requires c κs = search needs
-
 returns : tie.Need-returns
 unfolding conveyor
 returns c = simp (c .in-hand .ensures)
 
 pub conveyor-spec : {M : Type 1} → statement M
-conveyor-spec = tie.close (tie.spec in-hand-requires returns)
+conveyor-spec = tie.close (tie.spec (search needs) returns)

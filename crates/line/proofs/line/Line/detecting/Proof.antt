@@ -6,24 +6,9 @@ use Rattle.line.specs.Sample.{detecting}
 use Rattle.line.proofs.line.Line.detecting.Statement.{statement}
 use Rattle.line.proofs.line.Line.detecting.Tie as tie
 
-in-hand-requires : tie.Need-in-hand-requires
-in-hand-requires c κs = search needs
-
-with-item-requires : tie.Need-with-item-requires
-with-item-requires c κs = search needs
-
-given-requires : tie.Need-given-requires
-given-requires c κs = search needs
-
 returns : tie.Need-returns
 unfolding detecting
 returns c = simp (c .given .ensures, c .before .with-item .ensures, sym (c .before .before .before .in-hand .ensures) ∙ c .before .before .if1 .taken)
-
-new-item-requires : tie.Need-new-item-requires
-new-item-requires c κs = search needs
-
-with-item-requires-2 : tie.Need-with-item-requires-2
-with-item-requires-2 c κs = search needs
 
 returns-2 : tie.Need-returns-2
 unfolding detecting
@@ -35,10 +20,7 @@ pub detecting-spec : {M : Type 1} → statement M
 detecting-spec =
     tie.close
     (tie.spec
-    in-hand-requires
-    with-item-requires
-    given-requires
+    (search needs) (search needs) (search needs)
     returns
-    new-item-requires
-    with-item-requires-2
+    (search needs) (search needs)
     returns-2)

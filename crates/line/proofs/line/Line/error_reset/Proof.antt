@@ -3,18 +3,9 @@ use borrow.Author.Needs.{needs}
 use Rattle.line.proofs.line.Line.error_reset.Statement.{statement}
 use Rattle.line.proofs.line.Line.error_reset.Tie as tie
 
-with-status-requires : tie.Need-with-status-requires
-with-status-requires c κs = search needs
-
-plain-requires : tie.Need-plain-requires
-plain-requires c κs = search needs
-
-untallied-requires : tie.Need-untallied-requires
-untallied-requires c κs = search needs
-
 returns : tie.Need-returns
 returns c = simp (c .untallied .ensures, c .before .plain .ensures, c .before .before .with-status .ensures)
 
 pub error-reset-spec : {M : Type 1} → statement M
 error-reset-spec =
-    tie.close (tie.spec with-status-requires plain-requires untallied-requires returns)
+    tie.close (tie.spec (search needs) (search needs) (search needs) returns)

@@ -8,40 +8,16 @@ use Rattle.line.specs.Fit.{lineFit}
 use Rattle.line.proofs.line.Line.fit.Statement.{statement}
 use Rattle.line.proofs.line.Line.fit.Tie as tie
 
-fit-requires : tie.Need-fit-requires
-fit-requires c κs = search needs
-
 returns : tie.Need-returns
 unfolding lineFit
 returns c =
     let s = c .before .before .before .args .self in
     simp (sym (c .before .fit .ensures) ∙ not-true _ (c .if1 .taken), and-false (isCode (s .code)))
 
-is-code-requires : tie.Need-is-code-requires
-is-code-requires c κs = search needs
-
-fit-requires-2 : tie.Need-fit-requires-2
-fit-requires-2 c κs = search needs
-
-fit-requires-3 : tie.Need-fit-requires-3
-fit-requires-3 c κs = search needs
-
-status-fit-requires : tie.Need-status-fit-requires
-status-fit-requires c κs = search needs
-
-fit-requires-4 : tie.Need-fit-requires-4
-fit-requires-4 c κs = search needs
-
-fit-requires-5 : tie.Need-fit-requires-5
-fit-requires-5 c κs = search needs
-
 fit-requires-6 : tie.Need-fit-requires-6
 fit-requires-6 c κs =
     let t = c .before .before .before .before .before .before .before .before .before .before .before in
     sym (t .before .fit .ensures) ∙ not-false _ (t .if1 .left)
-
-fit-requires-7 : tie.Need-fit-requires-7
-fit-requires-7 c κs = search needs
 
 returns-2 : tie.Need-returns-2
 unfolding lineFit
@@ -65,14 +41,9 @@ pub fit-spec : {M : Type 1} → statement M
 fit-spec =
     tie.close
     (tie.spec
-    fit-requires
+    (search needs)
     returns
-    is-code-requires
-    fit-requires-2
-    fit-requires-3
-    status-fit-requires
-    fit-requires-4
-    fit-requires-5
+    (search needs) (search needs) (search needs) (search needs) (search needs) (search needs)
     fit-requires-6
-    fit-requires-7
+    (search needs)
     returns-2)

@@ -5,12 +5,6 @@ use Rattle.line.specs.Verdict.{given}
 use Rattle.line.proofs.line.Line.given.Statement.{statement}
 use Rattle.line.proofs.line.Line.given.Tie as tie
 
-sorted-for-requires : tie.Need-sorted-for-requires
-sorted-for-requires c κs = search needs
-
-stopped-for-requires : tie.Need-stopped-for-requires
-stopped-for-requires c κs = search needs
-
 returns : tie.Need-returns
 unfolding given
 returns c =
@@ -22,4 +16,4 @@ unfolding given
 returns-2 c = simp (c .if1 .left, c .before .stopped-for .ensures, c .before .before .sorted-for .ensures)
 
 pub given-spec : {M : Type 1} → statement M
-given-spec = tie.close (tie.spec sorted-for-requires stopped-for-requires returns returns-2)
+given-spec = tie.close (tie.spec (search needs) (search needs) returns returns-2)

@@ -5,9 +5,6 @@ use Rattle.line.specs.Refusal.{inputOf}
 use Rattle.line.proofs.line.Line.input.Statement.{statement}
 use Rattle.line.proofs.line.Line.input.Tie as tie
 
-input-off-requires : tie.Need-input-off-requires
-input-off-requires c κs = search needs
-
 returns : tie.Need-returns
 unfolding inputOf
 returns c = simp (c .input-off .ensures, eq-eqb _ _ (c .before .if1 .taken))
@@ -17,4 +14,4 @@ unfolding inputOf
 returns-2 c = simp (ne-eqb _ _ (c .if1 .left))
 
 pub input-spec : {M : Type 1} → statement M
-input-spec = tie.close (tie.spec input-off-requires returns returns-2)
+input-spec = tie.close (tie.spec (search needs) returns returns-2)

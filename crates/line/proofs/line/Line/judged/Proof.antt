@@ -15,9 +15,6 @@ use Rattle.line.specs.Verdict.{judged}
 use Rattle.line.proofs.line.Line.judged.Statement.{statement}
 use Rattle.line.proofs.line.Line.judged.Tie as tie
 
-dismissed-requires : tie.Need-dismissed-requires
-dismissed-requires c κs = search needs
-
 returns : tie.Need-returns
 unfolding judged
 returns c =
@@ -36,9 +33,6 @@ sub-net c =
     let s = c .before .before .before .before .before in
     sub-fits (s .args .m) (s .args .active .tare) (s .fits .m) (record { sfits = c .struct-told2 .given .1 .1 .1 .1 .1 .1 .0 .1 }) (sizes s)
 
-verdict-of-requires : tie.Need-verdict-of-requires
-verdict-of-requires c κs = search needs
-
 returns-2 : tie.Need-returns-2
 unfolding judged
 returns-2 c =
@@ -48,4 +42,4 @@ returns-2 c =
     simp (rw net at (c .verdict-of .ensures), le-was (s .fits .m) n (c .before .before .before .if1 .left))
 
 pub judged-spec : {M : Type 1} → statement M
-judged-spec = tie.close (tie.spec dismissed-requires returns sub-net verdict-of-requires returns-2)
+judged-spec = tie.close (tie.spec (search needs) returns sub-net (search needs) returns-2)

@@ -10,15 +10,9 @@ use Rattle.line.specs.Refusal.{memorySound}
 use Rattle.line.proofs.line.Line.memory_sound.Statement.{statement}
 use Rattle.line.proofs.line.Line.memory_sound.Tie as tie
 
-lengths-wrong-requires : tie.Need-lengths-wrong-requires
-lengths-wrong-requires c κs = search needs
-
 returns : tie.Need-returns
 unfolding memorySound
 returns c = simp (sym (c .before .lengths-wrong .ensures) ∙ c .if1 .taken)
-
-fit-requires : tie.Need-fit-requires
-fit-requires c κs = search needs
 
 -- the tests that were passed
 right : (c : tie.Else1) → lengthsWrong (c .before .before .args .count) (c .before .before .args .tallies .now) ≡ false
@@ -30,18 +24,6 @@ sound c = sym (c .before .fit .ensures) ∙ not-false _ (c .if2 .left)
 returns-2 : tie.Need-returns-2
 unfolding memorySound
 returns-2 c = simp (right (c .before .before), sym (c .before .fit .ensures) ∙ not-true _ (c .if2 .taken))
-
-reads-record-requires : tie.Need-reads-record-requires
-reads-record-requires c κs = search needs
-
-fit-requires-2 : tie.Need-fit-requires-2
-fit-requires-2 c κs = search needs
-
-reads-tally-requires : tie.Need-reads-tally-requires
-reads-tally-requires c κs = search needs
-
-fit-at-requires : tie.Need-fit-at-requires
-fit-at-requires c κs = search needs
 
 returns-3 : tie.Need-returns-3
 unfolding memorySound
@@ -67,13 +49,10 @@ pub memory-sound-spec : {M : Type 1} → statement M
 memory-sound-spec =
     tie.close
     (tie.spec
-    lengths-wrong-requires
+    (search needs)
     returns
-    fit-requires
+    (search needs)
     returns-2
-    reads-record-requires
-    fit-requires-2
-    reads-tally-requires
-    fit-at-requires
+    (search needs) (search needs) (search needs) (search needs)
     returns-3
     returns-4)

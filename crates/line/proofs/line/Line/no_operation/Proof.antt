@@ -3,14 +3,8 @@ use borrow.Author.Needs.{needs}
 use Rattle.line.proofs.line.Line.no_operation.Statement.{statement}
 use Rattle.line.proofs.line.Line.no_operation.Tie as tie
 
-plain-requires : tie.Need-plain-requires
-plain-requires c κs = search needs
-
-untallied-requires : tie.Need-untallied-requires
-untallied-requires c κs = search needs
-
 returns : tie.Need-returns
 returns c = simp (c .untallied .ensures, c .before .plain .ensures)
 
 pub no-operation-spec : {M : Type 1} → statement M
-no-operation-spec = tie.close (tie.spec plain-requires untallied-requires returns)
+no-operation-spec = tie.close (tie.spec (search needs) (search needs) returns)

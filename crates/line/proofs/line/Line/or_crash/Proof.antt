@@ -4,12 +4,6 @@ use Rattle.line.specs.Verdict.{orCrash}
 use Rattle.line.proofs.line.Line.or_crash.Statement.{statement}
 use Rattle.line.proofs.line.Line.or_crash.Tie as tie
 
-has-requires : tie.Need-has-requires
-has-requires c κs = search needs
-
-full-requires : tie.Need-full-requires
-full-requires c κs = search needs
-
 returns : tie.Need-returns
 unfolding orCrash
 returns c = simp (rw (c .before .full .ensures, c .before .before .has .ensures) at (c .if1 .taken))
@@ -19,4 +13,4 @@ unfolding orCrash
 returns-2 c = simp (rw (c .before .full .ensures, c .before .before .has .ensures) at (c .if1 .left))
 
 pub or-crash-spec : {M : Type 1} → statement M
-or-crash-spec = tie.close (tie.spec has-requires full-requires returns returns-2)
+or-crash-spec = tie.close (tie.spec (search needs) (search needs) returns returns-2)

@@ -5,36 +5,6 @@ use Rattle.line.specs.Refusal.{refusalOf}
 use Rattle.line.proofs.line.Line.refusal.Statement.{statement}
 use Rattle.line.proofs.line.Line.refusal.Tie as tie
 
-memory-sound-requires : tie.Need-memory-sound-requires
-memory-sound-requires c κs = search needs
-
-ranged-requires : tie.Need-ranged-requires
-ranged-requires c κs = search needs
-
-status-wrong-requires : tie.Need-status-wrong-requires
-status-wrong-requires c κs = search needs
-
-agrees-requires : tie.Need-agrees-requires
-agrees-requires c κs = search needs
-
-input-off-requires : tie.Need-input-off-requires
-input-off-requires c κs = search needs
-
-run-unsafe-requires : tie.Need-run-unsafe-requires
-run-unsafe-requires c κs = search needs
-
-run-occupied-requires : tie.Need-run-occupied-requires
-run-occupied-requires c κs = search needs
-
-is-nothing-requires : tie.Need-is-nothing-requires
-is-nothing-requires c κs = search needs
-
-nothing-to-cancel-requires : tie.Need-nothing-to-cancel-requires
-nothing-to-cancel-requires c κs = search needs
-
-number-requires : tie.Need-number-requires
-number-requires c κs = search needs
-
 returns : tie.Need-returns
 unfolding refusalOf
 returns c =
@@ -52,14 +22,6 @@ pub refusal-spec : {M : Type 1} → statement M
 refusal-spec =
     tie.close
     (tie.spec
-    memory-sound-requires
-    ranged-requires
-    status-wrong-requires
-    agrees-requires
-    input-off-requires
-    run-unsafe-requires
-    run-occupied-requires
-    is-nothing-requires
-    nothing-to-cancel-requires
-    number-requires
+    (search needs) (search needs) (search needs) (search needs) (search needs) (search needs)
+    (search needs) (search needs) (search needs) (search needs)
     returns)

@@ -4,20 +4,11 @@ use Rattle.line.specs.Sample.{runningTick, step4, step5}
 use Rattle.line.proofs.line.Line.running_tick.Statement.{statement}
 use Rattle.line.proofs.line.Line.running_tick.Tie as tie
 
-step4-requires : tie.Need-step4-requires
-step4-requires c κs = search needs
-
-step5-requires : tie.Need-step5-requires
-step5-requires c κs = search needs
-
 step6-requires : tie.Need-step6-requires
 unfolding step4 step5
 step6-requires c κs =
     let p = c .before .before .pre in
     rw (c .step5 .ensures, c .before .step4 .ensures) (record { setup = p .setup; item = p .item; active = p .active; gross = p .gross })
-
-step7-requires : tie.Need-step7-requires
-step7-requires c κs = search needs
 
 returns : tie.Need-returns
 unfolding runningTick
@@ -26,4 +17,4 @@ returns c =
 
 pub running-tick-spec : {M : Type 1} → statement M
 running-tick-spec =
-    tie.close (tie.spec step4-requires step5-requires step6-requires step7-requires returns)
+    tie.close (tie.spec (search needs) (search needs) step6-requires (search needs) returns)

@@ -10,46 +10,19 @@ use Rattle.line.specs.Sample.{sampled, fromStep3, step2, step3, guarded,
 use Rattle.line.proofs.line.Line.sampled.Statement.{statement}
 use Rattle.line.proofs.line.Line.sampled.Tie as tie
 
-foreign-rises-requires : tie.Need-foreign-rises-requires
-foreign-rises-requires c κs = search needs
-
-step1-requires : tie.Need-step1-requires
-step1-requires c κs = search needs
-
-edge-made-requires : tie.Need-edge-made-requires
-edge-made-requires c κs = search needs
-
-halting-requires : tie.Need-halting-requires
-halting-requires c κs = search needs
-
 returns : tie.Need-returns
 unfolding sampled fromStep3 step2 halting halted
 returns c = simp (c .halting .ensures, sym (c .before .before .before .before .step1 .ensures), eq-eqb _ _ (c .before .if1 .taken))
-
-halting-requires-2 : tie.Need-halting-requires-2
-halting-requires-2 c κs = search needs
 
 returns-2 : tie.Need-returns-2
 unfolding sampled fromStep3 step2 halting halted
 returns-2 c =
     simp (c .halting2 .ensures, sym (c .before .before .before .before .before .before .step1 .ensures), eq-eqb _ _ (c .before .if2 .taken), ne-eqb _ _ (c .before .before .before .if1 .left))
 
-plain-requires : tie.Need-plain-requires
-plain-requires c κs = search needs
-
 returns-3 : tie.Need-returns-3
 unfolding sampled fromStep3 step2
 returns-3 c =
     simp (c .plain .ensures, sym (c .before .before .before .before .before .before .before .before .step1 .ensures), ne-eqb _ _ (c .before .if3 .taken), ne-eqb _ _ (c .before .before .before .if2 .left), ne-eqb _ _ (c .before .before .before .before .before .if1 .left))
-
-lowest-off-requires : tie.Need-lowest-off-requires
-lowest-off-requires c κs = search needs
-
-with-status-requires : tie.Need-with-status-requires
-with-status-requires c κs = search needs
-
-plain-requires-2 : tie.Need-plain-requires-2
-plain-requires-2 c κs = search needs
 
 returns-4 : tie.Need-returns-4
 unfolding sampled fromStep3 step2 step3 guarded
@@ -75,18 +48,13 @@ pub sampled-spec : {M : Type 1} → statement M
 sampled-spec =
     tie.close
     (tie.spec
-    foreign-rises-requires
-    step1-requires
-    edge-made-requires
-    halting-requires
+    (search needs) (search needs) (search needs) (search needs)
     returns
-    halting-requires-2
+    (search needs)
     returns-2
-    plain-requires
+    (search needs)
     returns-3
-    lowest-off-requires
-    with-status-requires
-    plain-requires-2
+    (search needs) (search needs) (search needs)
     returns-4
     running-tick-requires
     returns-5)

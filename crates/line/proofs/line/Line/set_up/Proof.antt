@@ -3,17 +3,8 @@ use borrow.Author.Needs.{needs}
 use Rattle.line.proofs.line.Line.set_up.Statement.{statement}
 use Rattle.line.proofs.line.Line.set_up.Tie as tie
 
-with-setup-requires : tie.Need-with-setup-requires
-with-setup-requires c κs = search needs
-
-plain-requires : tie.Need-plain-requires
-plain-requires c κs = search needs
-
-untallied-requires : tie.Need-untallied-requires
-untallied-requires c κs = search needs
-
 returns : tie.Need-returns
 returns c = simp (c .untallied .ensures, c .before .plain .ensures, c .before .before .with-setup .ensures)
 
 pub set-up-spec : {M : Type 1} → statement M
-set-up-spec = tie.close (tie.spec with-setup-requires plain-requires untallied-requires returns)
+set-up-spec = tie.close (tie.spec (search needs) (search needs) (search needs) returns)

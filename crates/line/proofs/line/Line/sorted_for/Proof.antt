@@ -5,15 +5,6 @@ use Rattle.line.specs.Verdict.{sortedFor}
 use Rattle.line.proofs.line.Line.sorted_for.Statement.{statement}
 use Rattle.line.proofs.line.Line.sorted_for.Tie as tie
 
-has-requires : tie.Need-has-requires
-has-requires c κs = search needs
-
-queued-requires : tie.Need-queued-requires
-queued-requires c κs = search needs
-
-with-sorter-requires : tie.Need-with-sorter-requires
-with-sorter-requires c κs = search needs
-
 returns : tie.Need-returns
 unfolding sortedFor
 returns c = simp (c .with-sorter .ensures, c .before .queued .ensures, sym (c .before .before .before .before .has .ensures) ∙ c .before .before .before .if1 .taken)
@@ -24,4 +15,4 @@ returns-2 c = simp (sym (c .before .has .ensures) ∙ c .if1 .left)
 
 pub sorted-for-spec : {M : Type 1} → statement M
 sorted-for-spec =
-    tie.close (tie.spec has-requires queued-requires with-sorter-requires returns returns-2)
+    tie.close (tie.spec (search needs) (search needs) (search needs) returns returns-2)

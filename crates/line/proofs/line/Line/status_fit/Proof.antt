@@ -26,12 +26,6 @@ of-others : (l : Line) (e : Bool) → e ≡ errorKnown (l .error) → halted l �
 unfolding statusFit
 of-others l e p h = rw (p, h, and-true (known l (errorKnown (l .error))))
 
-error-known-requires : tie.Need-error-known-requires
-error-known-requires c κs = search needs
-
-busy-requires : tie.Need-busy-requires
-busy-requires c κs = search needs
-
 returns : tie.Need-returns
 returns c = of-halted _ _ _ (c .before .before .before .before .error-known .ensures) (c .busy .ensures) (c .before .if1 .taken)
 
@@ -39,4 +33,4 @@ returns-2 : tie.Need-returns-2
 returns-2 c = of-others _ _ (c .before .before .before .error-known .ensures) (c .if1 .left)
 
 pub status-fit-spec : {M : Type 1} → statement M
-status-fit-spec = tie.close (tie.spec error-known-requires busy-requires returns returns-2)
+status-fit-spec = tie.close (tie.spec (search needs) (search needs) returns returns-2)

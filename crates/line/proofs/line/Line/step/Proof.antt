@@ -9,15 +9,6 @@ use Rattle.line.specs.Step.{stepOf}
 use Rattle.line.proofs.line.Line.step.Statement.{statement}
 use Rattle.line.proofs.line.Line.step.Tie as tie
 
-refusal-requires : tie.Need-refusal-requires
-refusal-requires c κs = search needs
-
-input-requires : tie.Need-input-requires
-input-requires c κs = search needs
-
-same-length : tie.Need-same-length
-same-length c = search needs
-
 returns : tie.Need-returns
 unfolding stepOf
 returns c =
@@ -27,12 +18,6 @@ returns c =
     let is : c .before .before .refusal .result ≡ n = c .before .before .refusal .ensures in
     let z : eqb n 0 ≡ false = ne-eqb n 0 (λ h. c .before .if1 .taken (is ∙ h)) in
     rw z (rw (c .input .ensures, is) refl, refl)
-
-accepted-requires : tie.Need-accepted-requires
-accepted-requires c κs = search needs
-
-same-length-2 : tie.Need-same-length-2
-same-length-2 c = search needs
 
 returns-2 : tie.Need-returns-2
 unfolding stepOf
@@ -44,10 +29,7 @@ pub step-spec : {M : Type 1} → statement M
 step-spec =
     tie.close
     (tie.spec
-    refusal-requires
-    input-requires
-    same-length
+    (search needs) (search needs) (search needs)
     returns
-    accepted-requires
-    same-length-2
+    (search needs) (search needs)
     returns-2)

@@ -5,12 +5,6 @@ use Rattle.line.specs.Sample.{step1}
 use Rattle.line.proofs.line.Line.step1.Statement.{statement}
 use Rattle.line.proofs.line.Line.step1.Tie as tie
 
-settled-requires : tie.Need-settled-requires
-settled-requires c κs = search needs
-
-with-sensed-requires : tie.Need-with-sensed-requires
-with-sensed-requires c κs = search needs
-
 returns : tie.Need-returns
 unfolding step1
 returns c =
@@ -18,4 +12,4 @@ returns c =
     simp (rw b at (c .with-sensed .ensures), c .before .before .settled .ensures)
 
 pub step1-spec : {M : Type 1} → statement M
-step1-spec = tie.close (tie.spec settled-requires with-sensed-requires returns)
+step1-spec = tie.close (tie.spec (search needs) (search needs) returns)

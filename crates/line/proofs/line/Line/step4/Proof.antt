@@ -4,15 +4,9 @@ use Rattle.line.specs.Sample.{step4}
 use Rattle.line.proofs.line.Line.step4.Statement.{statement}
 use Rattle.line.proofs.line.Line.step4.Tie as tie
 
-ticked-requires : tie.Need-ticked-requires
-ticked-requires c κs = search needs
-
-with-sorter-requires : tie.Need-with-sorter-requires
-with-sorter-requires c κs = search needs
-
 returns : tie.Need-returns
 unfolding step4
 returns c = simp (c .with-sorter .ensures, c .before .ticked .ensures)
 
 pub step4-spec : {M : Type 1} → statement M
-step4-spec = tie.close (tie.spec ticked-requires with-sorter-requires returns)
+step4-spec = tie.close (tie.spec (search needs) (search needs) returns)

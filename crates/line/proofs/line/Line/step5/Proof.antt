@@ -4,15 +4,9 @@ use Rattle.line.specs.Sample.{step5}
 use Rattle.line.proofs.line.Line.step5.Statement.{statement}
 use Rattle.line.proofs.line.Line.step5.Tie as tie
 
-ticked-requires : tie.Need-ticked-requires
-ticked-requires c κs = search needs
-
-with-foreign-requires : tie.Need-with-foreign-requires
-with-foreign-requires c κs = search needs
-
 returns : tie.Need-returns
 unfolding step5
 returns c = simp (c .with-foreign .ensures, c .before .ticked .ensures)
 
 pub step5-spec : {M : Type 1} → statement M
-step5-spec = tie.close (tie.spec ticked-requires with-foreign-requires returns)
+step5-spec = tie.close (tie.spec (search needs) (search needs) returns)

@@ -8,24 +8,6 @@ use Rattle.line.specs.Sample.{step6, afterWeighing}
 use Rattle.line.proofs.line.Line.step6.Statement.{statement}
 use Rattle.line.proofs.line.Line.step6.Tie as tie
 
-weighed-requires : tie.Need-weighed-requires
-weighed-requires c κs = search needs
-
-enum-known-weighed : tie.Need-enum-known-weighed
-enum-known-weighed c = search needs
-
-with-item-requires : tie.Need-with-item-requires
-with-item-requires c κs = search needs
-
-plain-requires : tie.Need-plain-requires
-plain-requires c κs = search needs
-
-enum-known-weighed-2 : tie.Need-enum-known-weighed-2
-enum-known-weighed-2 c = search needs
-
-with-item-requires-2 : tie.Need-with-item-requires-2
-with-item-requires-2 c κs = search needs
-
 judged-requires : tie.Need-judged-requires
 judged-requires c κs =
     let s = c .before .before .before .before .before .before .before in
@@ -55,12 +37,7 @@ pub step6-spec : {M : Type 1} → statement M
 step6-spec =
     tie.close
     (tie.spec
-    weighed-requires
-    enum-known-weighed
-    with-item-requires
-    plain-requires
-    enum-known-weighed-2
-    with-item-requires-2
+    (λ c κs. search needs) (search needs) (search needs) (search needs) (search needs) (search needs)
     judged-requires
     returns
     returns-2)

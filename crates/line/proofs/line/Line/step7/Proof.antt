@@ -4,9 +4,6 @@ use Rattle.line.specs.Sample.{step7}
 use Rattle.line.proofs.line.Line.step7.Statement.{statement}
 use Rattle.line.proofs.line.Line.step7.Tie as tie
 
-detecting-requires : tie.Need-detecting-requires
-detecting-requires c κs = search needs
-
 returns : tie.Need-returns
 unfolding step7
 returns c = simp (c .detecting .ensures, c .before .if1 .taken)
@@ -16,4 +13,4 @@ unfolding step7
 returns-2 c = simp (c .if1 .left)
 
 pub step7-spec : {M : Type 1} → statement M
-step7-spec = tie.close (tie.spec detecting-requires returns returns-2)
+step7-spec = tie.close (tie.spec (search needs) returns returns-2)

@@ -5,15 +5,6 @@ use Rattle.line.specs.Verdict.{stoppedFor}
 use Rattle.line.proofs.line.Line.stopped_for.Statement.{statement}
 use Rattle.line.proofs.line.Line.stopped_for.Tie as tie
 
-has-requires : tie.Need-has-requires
-has-requires c κs = search needs
-
-error-for-requires : tie.Need-error-for-requires
-error-for-requires c κs = search needs
-
-with-status-requires : tie.Need-with-status-requires
-with-status-requires c κs = search needs
-
 returns : tie.Need-returns
 unfolding stoppedFor
 returns c = simp (c .with-status .ensures, c .before .error-for .ensures, sym (c .before .before .before .has .ensures) ∙ c .before .before .if1 .taken)
@@ -24,4 +15,4 @@ returns-2 c = simp (sym (c .before .has .ensures) ∙ c .if1 .left)
 
 pub stopped-for-spec : {M : Type 1} → statement M
 stopped-for-spec =
-    tie.close (tie.spec has-requires error-for-requires with-status-requires returns returns-2)
+    tie.close (tie.spec (search needs) (search needs) (search needs) returns returns-2)

@@ -5,28 +5,13 @@ use Rattle.line.specs.Command.{stopping}
 use Rattle.line.proofs.line.Line.stopping.Statement.{statement}
 use Rattle.line.proofs.line.Line.stopping.Tie as tie
 
-busy-requires : tie.Need-busy-requires
-busy-requires c κs = search needs
-
-with-status-requires : tie.Need-with-status-requires
-with-status-requires c κs = search needs
-
-plain-requires : tie.Need-plain-requires
-plain-requires c κs = search needs
-
 returns : tie.Need-returns
 unfolding stopping
 returns c = simp (c .plain .ensures, c .before .with-status .ensures, rw (c .before .before .before .busy .ensures) at (c .before .before .if1 .taken))
 
-plain-requires-2 : tie.Need-plain-requires-2
-plain-requires-2 c κs = search needs
-
 returns-2 : tie.Need-returns-2
 unfolding stopping
 returns-2 c = simp (c .plain2 .ensures, rw (c .before .before .before .before .busy .ensures) at (c .before .before .before .if1 .left), eq-eqb _ _ (c .before .if2 .taken))
-
-halting-requires : tie.Need-halting-requires
-halting-requires c κs = search needs
 
 returns-3 : tie.Need-returns-3
 unfolding stopping
@@ -36,11 +21,9 @@ pub stopping-spec : {M : Type 1} → statement M
 stopping-spec =
     tie.close
     (tie.spec
-    busy-requires
-    with-status-requires
-    plain-requires
+    (search needs) (search needs) (search needs)
     returns
-    plain-requires-2
+    (search needs)
     returns-2
-    halting-requires
+    (search needs)
     returns-3)

@@ -3,14 +3,8 @@ use borrow.Author.Needs.{needs}
 use Rattle.line.proofs.line.Line.store.Statement.{statement}
 use Rattle.line.proofs.line.Line.store.Tie as tie
 
-plain-requires : tie.Need-plain-requires
-plain-requires c κs = search needs
-
-replied-requires : tie.Need-replied-requires
-replied-requires c κs = search needs
-
 returns : tie.Need-returns
 returns c = simp (c .replied .ensures, c .before .plain .ensures)
 
 pub store-spec : {M : Type 1} → statement M
-store-spec = tie.close (tie.spec plain-requires replied-requires returns)
+store-spec = tie.close (tie.spec (search needs) (search needs) returns)

@@ -4,12 +4,6 @@ use Rattle.line.specs.Storing.{placeOf}
 use Rattle.line.proofs.step.Step.place.Statement.{statement}
 use Rattle.line.proofs.step.Step.place.Tie as tie
 
-enum-told : tie.Need-enum-told
-enum-told c = search needs
-
-enum-known-storing : tie.Need-enum-known-storing
-enum-known-storing c = search needs
-
 returns : tie.Need-returns
 unfolding placeOf
 returns c = simp (c .enum-told .given .1)
@@ -19,4 +13,4 @@ unfolding placeOf
 returns-2 c = simp (c .before .storing .given .1)
 
 pub place-spec : {M : Type 1} → statement M
-place-spec = tie.close (tie.spec enum-told enum-known-storing returns returns-2)
+place-spec = tie.close (tie.spec (search needs) (search needs) returns returns-2)

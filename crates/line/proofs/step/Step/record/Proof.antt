@@ -4,12 +4,6 @@ use Rattle.line.specs.Storing.{recordOf}
 use Rattle.line.proofs.step.Step.record.Statement.{statement}
 use Rattle.line.proofs.step.Step.record.Tie as tie
 
-enum-told : tie.Need-enum-told
-enum-told c = search needs
-
-enum-known-storing : tie.Need-enum-known-storing
-enum-known-storing c = search needs
-
 returns : tie.Need-returns
 unfolding recordOf
 returns c = simp (c .enum-told .given .1)
@@ -19,4 +13,4 @@ unfolding recordOf
 returns-2 c = simp (c .before .storing .given .1)
 
 pub record-spec : {M : Type 1} → statement M
-record-spec = tie.close (tie.spec enum-told enum-known-storing returns returns-2)
+record-spec = tie.close (tie.spec (search needs) (search needs) returns returns-2)

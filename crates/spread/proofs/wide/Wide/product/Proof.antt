@@ -16,9 +16,6 @@ low-le c = digit-by (c .args .a) (c .args .b % 1000000) (omega arith) (omega ari
 mul-high : tie.Need-mul-high
 mul-high c = omega (arith, high-le c)
 
-mul-low : tie.Need-mul-low
-mul-low c = search needs
-
 mul-low-2 : tie.Need-mul-low-2
 mul-low-2 c = omega (arith, low-le c)
 
@@ -34,4 +31,4 @@ returns c =
     omega (arith, halves-product (p .a) (p .b) (p .b / 1000000) (p .b % 1000000) 1000000 (omega arith))
 
 pub product-spec : {M : Type 1} → statement M
-product-spec = tie.close (tie.spec mul-high mul-low mul-low-2 add-low add-t7 returns)
+product-spec = tie.close (tie.spec mul-high (search needs) mul-low-2 add-low add-t7 returns)

@@ -14,9 +14,6 @@ use Rattle.tally.proofs.tally.Tally.fit.Tie as tie
 small-of : (c : tie.Else1) → Small (c .before .before .args .self)
 small-of c = small-tells (c .before .before .args .self) (sym (c .before .is-small .ensures) ∙ not-false _ (c .if1 .left))
 
-is-small-requires : tie.Need-is-small-requires
-is-small-requires c κs = search needs
-
 returns : tie.Need-returns
 returns c = sym (large-unfit (c .before .before .args .self) (sym (c .before .is-small .ensures) ∙ not-true _ (c .if1 .taken)))
 
@@ -26,23 +23,11 @@ total-requires c κs = small-of c
 graded-requires : tie.Need-graded-requires
 graded-requires c κs = small-of (c .before)
 
-size-requires : tie.Need-size-requires
-size-requires c κs = search needs
-
 mul-result : tie.Need-mul-result
 mul-result c = let s = small-of (c .before .before .before .before .before .before) in omega (arith, s .n)
 
 mul-result-2 : tie.Need-mul-result-2
 mul-result-2 c = let s = small-of (c .before .before .before .before .before .before .before) in omega (arith, s .n)
-
-is-weight-requires : tie.Need-is-weight-requires
-is-weight-requires c κs = search needs
-
-is-weight-requires-2 : tie.Need-is-weight-requires-2
-is-weight-requires-2 c κs = search needs
-
-none-is-zero-requires : tie.Need-none-is-zero-requires
-none-is-zero-requires c κs = search needs
 
 returns-2 : tie.Need-returns-2
 unfolding tallyFit
@@ -66,14 +51,12 @@ pub fit-spec : {M : Type 1} → statement M
 fit-spec =
     tie.close
     (tie.spec
-    is-small-requires
+    (search needs)
     returns
     total-requires
     graded-requires
-    size-requires
+    (search needs)
     mul-result
     mul-result-2
-    is-weight-requires
-    is-weight-requires-2
-    none-is-zero-requires
+    (search needs) (search needs) (search needs)
     returns-2)

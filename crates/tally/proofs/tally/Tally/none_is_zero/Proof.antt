@@ -5,12 +5,6 @@ use Rattle.laws.proofs.Signed.{back}
 use Rattle.tally.proofs.tally.Tally.none_is_zero.Statement.{statement}
 use Rattle.tally.proofs.tally.Tally.none_is_zero.Tie as tie
 
-size-requires : tie.Need-size-requires
-size-requires c κs = search needs
-
-size-requires-2 : tie.Need-size-requires-2
-size-requires-2 c κs = search needs
-
 returns : tie.Need-returns
 returns c =
     let t = c .before .before .before .before .before .before .args .self in
@@ -26,4 +20,4 @@ returns-2 : tie.Need-returns-2
 returns-2 c = simp (ne-eqb _ _ (c .if1 .left))
 
 pub none-is-zero-spec : {M : Type 1} → statement M
-none-is-zero-spec = tie.close (tie.spec size-requires size-requires-2 returns returns-2)
+none-is-zero-spec = tie.close (tie.spec (search needs) (search needs) returns returns-2)

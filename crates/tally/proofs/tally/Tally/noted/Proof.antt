@@ -9,9 +9,6 @@ use Rattle.tally.proofs.Facts.{takes-tells}
 use Rattle.tally.proofs.tally.Tally.noted.Statement.{statement}
 use Rattle.tally.proofs.tally.Tally.noted.Tie as tie
 
-takes-requires : tie.Need-takes-requires
-takes-requires c κs = search needs
-
 taken : (c : tie.Then1) → takes (c .before .before .args .self) (c .before .before .args .verdict) (c .before .before .args .net) ≡ true
 taken c = rw (toZ-ofZ (c .before .before .fits .net)) at (sym (c .before .takes .ensures) ∙ c .if1 .taken)
 
@@ -30,4 +27,4 @@ unfolding notedOf
 returns-2 c = rw (rw (toZ-ofZ (c .before .before .fits .net)) at (sym (c .before .takes .ensures) ∙ c .if1 .left))
 
 pub noted-spec : {M : Type 1} → statement M
-noted-spec = tie.close (tie.spec takes-requires added-requires returns returns-2)
+noted-spec = tie.close (tie.spec (search needs) added-requires returns returns-2)

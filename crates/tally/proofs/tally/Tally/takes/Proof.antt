@@ -9,15 +9,9 @@ use Rattle.tally.proofs.Facts.{fit-tells}
 use Rattle.tally.proofs.tally.Tally.takes.Statement.{statement}
 use Rattle.tally.proofs.tally.Tally.takes.Tie as tie
 
-fit-requires : tie.Need-fit-requires
-fit-requires c κs = search needs
-
 returns : tie.Need-returns
 unfolding takes
 returns c = rw (sym (c .before .fit .ensures) ∙ not-true _ (c .if1 .taken))
-
-is-weight-requires : tie.Need-is-weight-requires
-is-weight-requires c κs = search needs
 
 fit-was : (c : tie.Else1) → tallyFit (c .before .before .args .self) ≡ true
 fit-was c = sym (c .before .fit .ensures) ∙ not-false _ (c .if1 .left)
@@ -32,4 +26,4 @@ returns-2 c =
     rw (c .has-room .ensures, c .before .is-weight .ensures, toZ-ofZ (s .fits .net), fit-was (c .before .before))
 
 pub takes-spec : {M : Type 1} → statement M
-takes-spec = tie.close (tie.spec fit-requires returns is-weight-requires has-room-requires returns-2)
+takes-spec = tie.close (tie.spec (search needs) returns (search needs) has-room-requires returns-2)

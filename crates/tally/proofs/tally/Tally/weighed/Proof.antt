@@ -25,18 +25,6 @@ size-is c = rw (toZ-ofZ (c .before .before .before .before .before .before .fits
 square : (c : tie.After-struct-told) → let m = c .before .before .before .size .result in m * m ≤ 999998000001
 square c = square-le (c .before .before .before .size .result) (omega (arith, size-is c, c .before .before .before .before .before .before .pre .1))
 
-larger-requires : tie.Need-larger-requires
-larger-requires c κs = search needs
-
-smaller-requires : tie.Need-smaller-requires
-smaller-requires c κs = search needs
-
-size-requires : tie.Need-size-requires
-size-requires c κs = search needs
-
-add-self : tie.Need-add-self
-add-self c = search needs
-
 add-self-2 : tie.Need-add-self-2
 add-self-2 c = let s = c .before .before .before .before .before .before in add-fits (s .args .self .sum) (s .args .net) (sum-fits c) (s .fits .net) (room c)
 
@@ -66,10 +54,7 @@ pub weighed-spec : {M : Type 1} → statement M
 weighed-spec =
     tie.close
     (tie.spec
-    larger-requires
-    smaller-requires
-    size-requires
-    add-self
+    (search needs) (search needs) (search needs) (search needs)
     add-self-2
     mul-self
     add-self-3
