@@ -20,9 +20,10 @@ use Rattle.tally.specs.Tally.{emptyTally, tallyFit, isVerdict}
 use Rattle.tallies.proofs.Parts.{lies-there, written-is}
 use Rattle.tallies.specs.Memory.{withTally, zeros, talliesLength}
 use Rattle.status.specs.Status.{stopped, paused, emergency, errorKnown}
-use Rattle.line.specs.Line.{inHand, isRunning, busy, withStatus, withSetup, withUndo}
+use Rattle.line.specs.Line.{isRunning, busy, withStatus, withSetup, withUndo}
 use Rattle.event.specs.Reply.{noError}
-use Rattle.line.specs.Fit.{statusFit, itemFit}
+use Rattle.line.specs.Fit.{statusFit}
+use Rattle.item.specs.Item.{inHand, itemFit}
 use Rattle.line.specs.Effect.{plain, halting, replied}
 use Rattle.line.specs.Sample.{sampled}
 use Rattle.line.specs.Command.{ran, stopping, alarmed}
@@ -30,8 +31,8 @@ use Rattle.refusal.specs.Rows.{readsRecord, statusWrong, nothingToCancel}
 use Rattle.undo.specs.Undo.{nothing, noChance, undoFit, putBack}
 use Rattle.line.specs.Tallying.{untallied, cancelled, recalled, codeCleared, clearedOne, clearedAll}
 use Rattle.line.specs.Step.{storing, accepted}
-use Rattle.line.specs.declared.item.Item.{Item}
-use Rattle.line.specs.declared.item.Item.the-variants.{None, Waiting, Averaging}
+use Rattle.item.specs.declared.Item.{Item}
+use Rattle.item.specs.declared.Item.the-variants.{None, Waiting, Averaging}
 use Rattle.line.specs.declared.line.Line.{Line}
 use Rattle.line.specs.declared.effect.Effect.{Effect}
 use Rattle.line.proofs.Facts.{FitLine}

@@ -20,9 +20,11 @@ use Rattle.event.specs.Setup.{setupRanged, edgeAgrees}
 use Rattle.event.specs.Event.{eventRanged, eventAgrees}
 use Rattle.event.specs.declared.Event.{Event}
 use Rattle.event.specs.declared.Event.the-variants.{Sample, Run, Stop, Emergency, Recall, Cancel, ClearCode, ClearAll, ErrorReset, NoOperation, Setup, Store}
-use Rattle.line.specs.Line.{freshLine, inHand, busy}
+use Rattle.line.specs.Line.{freshLine, busy}
 use Rattle.status.specs.Status.{errorKnown}
-use Rattle.line.specs.Fit.{lastFit, statusFit, itemFit}
+use Rattle.line.specs.Fit.{statusFit}
+use Rattle.event.specs.Sample.{lastFit}
+use Rattle.item.specs.Item.{inHand, itemFit}
 use Rattle.undo.specs.Undo.{undoFit, noChance}
 use Rattle.refusal.specs.Rows.{lengthsWrong, readsRecord, readsTally, statusWrong, runUnsafe, runOccupied, nothingToCancel}
 use Rattle.line.specs.Refusal.{memorySound, faultsOf, refusalOf}

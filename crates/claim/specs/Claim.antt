@@ -11,7 +11,7 @@ use Rattle.event.specs.declared.Event.the-variants.{Cancel}
 use Rattle.tallies.specs.Memory.{numbers, part}
 use Rattle.sheet.specs.Sheet.{sheetOf}
 use Rattle.sheet.specs.Report.{printed, reportOn}
-use Rattle.line.specs.Line.{inHand}
+use Rattle.item.specs.Item.{inHand}
 use Rattle.event.specs.declared.reply.Reply.{Reply}
 use Rattle.event.specs.declared.reply.Reply.the-variants.{Refused, Done}
 use Rattle.book.specs.Book.{talliedBy, bookOf}

@@ -1,91 +1,51 @@
--- What a tick keeps: times stay from 0 to 9,999, levels 0 or 1, a queue's waits from 1 to 9,999 and at most eight. Assumes nothing.
-use mathlib.Core.Path.{_≡_, refl, sym}
+-- What a tick keeps: times stay from 0 to 9,999, levels 0 or 1, the sorter and the detector fit. Assumes nothing.
+use mathlib.Core.Path.{_≡_, refl}
 use mathlib.Core.Bool.{Bool, true, false, _&&_, not}
-use mathlib.Core.List.{List, [], _∷_, _++_, map}
-use Prim.Native.Nat.{ℕ, _+_, _-_, _≤_, max}
+use mathlib.Core.List.{[]}
+use Prim.Native.Nat.{ℕ, _+_, _≤_, max}
 use native.Mathlib.Omega.{arith}
 use lib.Dec.{leb, eqb}
-use lib.ListN.{length, length-append, length-map, length-take}
-use borrow.Author.Tests.{leb-true, le-leb, leb-false, eqb-false}
+use borrow.Author.Tests.{leb-true, le-leb, leb-false}
 use Rattle.laws.specs.Choice.{within}
 use Rattle.laws.proofs.Tests.{both, and-intro, if-ind}
-use Rattle.lists.specs.Each.{allOf, without}
-use Rattle.lists.proofs.Each.{all-more, without-short, without-keeps}
-use Rattle.device.specs.Time.{longest, fallen, ended}
+use Rattle.lists.specs.Each.{allOf}
+use Rattle.time.specs.Time.{longest, isTime, fallen}
+use Rattle.queue.specs.Queue.{waitsOf, laid, waiting, isEmpty, oneEnds, queueFit}
+use Rattle.queue.proofs.Keeps.{laid-fit, queue-ticked-fit, joined-fit}
 use Rattle.device.specs.Sensor.{settled, sensorFit}
-use Rattle.device.specs.Queue.{places, waitsOf, laid, waiting, isEmpty, isFull, queueTicked, oneEnds, joined, queueFit}
 use Rattle.device.specs.Sorter.{sorting, sorterTicked, queued, sorterOff, sorterFit}
 use Rattle.device.specs.Foreign.{due, delayFallen, started, signalled, foreignTicked, flagUsed, noSignal, foreignFit}
 use Rattle.device.specs.declared.sensor.Sensor.{Sensor}
-use Rattle.device.specs.declared.queue.Queue.{Queue}
 use Rattle.device.specs.declared.sorter.Sorter.{Sorter}
 use Rattle.device.specs.declared.foreign.Foreign.{Foreign}
-use Rattle.device.proofs.Waits.{waits-laid}
 
 -- ---- the sensor
 
 pub settled-fit : (s : Sensor) (tc level : ℕ) → tc ≤ longest → level ≤ 1 → sensorFit s ≡ true → sensorFit (settled s tc level) ≡ true
 unfolding settled sensorFit
 settled-fit s tc level t l h =
-    let b = both (leb (s .level) 1) (leb (s .run) longest) h in
+    let b = both (leb (s .level) 1) (isTime (s .run)) h in
     if-ind (λ (k : Sensor). sensorFit k ≡ true) (eqb level (s .level)) _ _
     (λ _. and-intro (b .0) refl)
     (λ _. if-ind (λ (k : Sensor). sensorFit k ≡ true) (leb (max 1 tc) (s .run + 1)) _ _
     (λ _. and-intro (le-leb level 1 l) refl)
     (λ f. and-intro (b .0) (le-leb (s .run + 1) longest (omega (arith, leb-false (max 1 tc) (s .run + 1) f)))))
 
--- ---- the queue
-
-laid-fit : (l : List ℕ) → length l ≤ places → allOf (within 1 longest) l ≡ true → queueFit (laid l) ≡ true
-unfolding queueFit laid
-laid-fit l n h = and-intro (le-leb (length l) places n) (rw (waits-laid l) h)
-
--- a wait that has fallen and not ended
-still-fit : (w : ℕ) → within 1 longest w ≡ true → ended (fallen w) ≡ false → within 1 longest (fallen w) ≡ true
-still-fit w h t =
-    let b = both (leb 1 w) (leb w longest) h in
-    let above : fallen w ≡ 0 → ⊥ = eqb-false (fallen w) 0 t in
-    and-intro (le-leb 1 (fallen w) (omega arith)) (le-leb (fallen w) longest (omega (arith, leb-true w longest (b .1))))
-
-waits-few : (q : Queue) → waiting q ≤ q .n
-unfolding waiting waitsOf
-waits-few q = omega (arith, length-take (q .n) (q .waits))
-
-pub queue-ticked-fit : (q : Queue) → queueFit q ≡ true → queueFit (queueTicked q) ≡ true
-unfolding queueTicked queueFit waiting
-queue-ticked-fit q h =
-    let b = both (leb (q .n) places) (allOf (within 1 longest) (waitsOf q)) h in
-    let fell = map fallen (waitsOf q) in
-    let few : length (without ended fell) ≤ places = omega (arith, without-short ended fell, length-map (waitsOf q) fallen, waits-few q, leb-true (q .n) places (b .0)) in
-    if-ind (λ (k : Queue). queueFit k ≡ true) (isEmpty q) _ _
-    (λ _. h)
-    (λ _. laid-fit (without ended fell) few (without-keeps ended (within 1 longest) fallen still-fit (waitsOf q) (b .1)))
-
-pub joined-fit : (q : Queue) (ts : ℕ) → within 1 longest ts ≡ true → queueFit q ≡ true → queueFit (joined q ts) ≡ true
-unfolding joined queueFit isFull allOf waiting
-joined-fit q ts t h =
-    let b = both (leb (q .n) places) (allOf (within 1 longest) (waitsOf q)) h in
-    if-ind (λ (k : Queue). queueFit k ≡ true) (isFull q) _ _
-    (λ _. h)
-    (λ f. laid-fit (waitsOf q ++ ts ∷ [])
-    (omega (arith, length-append (waitsOf q) (ts ∷ []), leb-false places (waiting q) f))
-    (all-more (within 1 longest) (waitsOf q) (ts ∷ []) (b .1) (and-intro t refl)))
-
 -- ---- the sorter
 
 pub ticked-fit : (s : Sorter) (to : ℕ) → to ≤ longest → sorterFit s ≡ true → sorterFit (sorterTicked s to) ≡ true
 unfolding sorterFit sorterTicked
 ticked-fit s to t h =
-    let b = both (queueFit (s .queue)) (leb (s .on) longest) h in
+    let b = both (queueFit (s .queue)) (isTime (s .on)) h in
     and-intro (queue-ticked-fit (s .queue) (b .0))
-    (if-ind (λ (n : ℕ). leb n longest ≡ true) (oneEnds (s .queue)) _ _
+    (if-ind (λ (n : ℕ). isTime n ≡ true) (oneEnds (s .queue)) _ _
     (λ _. le-leb to longest t)
     (λ _. le-leb (fallen (s .on)) longest (omega (arith, leb-true (s .on) longest (b .1)))))
 
 pub queued-fit : (s : Sorter) (ts : ℕ) → within 1 longest ts ≡ true → sorterFit s ≡ true → sorterFit (queued s ts) ≡ true
 unfolding sorterFit queued
 queued-fit s ts t h =
-    let b = both (queueFit (s .queue)) (leb (s .on) longest) h in
+    let b = both (queueFit (s .queue)) (isTime (s .on)) h in
     and-intro (joined-fit (s .queue) ts t (b .0)) (b .1)
 
 pub off-fit : sorterFit sorterOff ≡ true

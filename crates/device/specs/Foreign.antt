@@ -1,9 +1,9 @@
 -- 01, step 5: the foreign delay and the flag.
 use Prim.Native.Nat.{ℕ}
 use mathlib.Core.Bool.{Bool, _&&_, not}
-use lib.Dec.{eqb, leb}
+use lib.Dec.{eqb}
 use Rattle.laws.specs.Choice.{if_then_else_}
-use Rattle.device.specs.Time.{longest, fallen}
+use Rattle.time.specs.Time.{isTime, fallen}
 use Rattle.device.specs.declared.foreign.Foreign.{Foreign}
 
 -- "the flag is set"
@@ -36,4 +36,4 @@ noSignal = record { delay = 0; flag = 0 }
 
 -- "other times 0 to 9,999"
 unfoldable pub foreignFit : Foreign → Bool
-foreignFit f = leb (f .delay) longest
+foreignFit f = isTime (f .delay)

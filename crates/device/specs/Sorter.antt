@@ -2,10 +2,10 @@
 use Prim.Native.Nat.{ℕ}
 use mathlib.Core.Bool.{Bool, _&&_, _||_, not}
 use mathlib.Core.List.{[]}
-use lib.Dec.{ltb, leb}
+use lib.Dec.{ltb}
 use Rattle.laws.specs.Choice.{if_then_else_}
-use Rattle.device.specs.Time.{longest, fallen}
-use Rattle.device.specs.Queue.{laid, isEmpty, isFull, queueTicked, oneEnds, joined, queueFit}
+use Rattle.time.specs.Time.{isTime, fallen}
+use Rattle.queue.specs.Queue.{laid, isEmpty, isFull, queueTicked, oneEnds, joined, queueFit}
 use Rattle.device.specs.declared.sorter.Sorter.{Sorter}
 
 -- "the queue holds 8"
@@ -31,4 +31,4 @@ sorterOff = record { queue = laid []; on = 0 }
 
 -- "at most 8 waits of 1 to 9,999, other times 0 to 9,999"
 unfoldable pub sorterFit : Sorter → Bool
-sorterFit s = queueFit (s .queue) && leb (s .on) longest
+sorterFit s = queueFit (s .queue) && isTime (s .on)

@@ -1,7 +1,7 @@
 // The foreign detector: a signal under way (delay) or arrived (flag).
 ghost use mathlib.Core.Path.{_≡_};
 ghost use Rattle.device.specs.Foreign.{due, delayFallen, started, signalled, foreignTicked, flagUsed, noSignal, foreignFit};
-use crate::time::LONGEST;
+use time::is_time;
 
 pub struct Foreign {
     pub delay: u64,
@@ -79,6 +79,6 @@ impl Foreign {
     pub fn fit(self) -> bool
         ensures { λ r. ⌜ r ≡ foreignFit self ⌝ }
     {
-        self.delay <= LONGEST
+        is_time(self.delay)
     }
 }

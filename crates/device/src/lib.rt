@@ -1,13 +1,9 @@
 // The devices along the belt: the sensor that sees boxes, the sorter with its queue, and the foreign detector. Each is a
 // struct by value; a tick gives the next one.
 mod foreign;
-mod queue;
 mod sensor;
 mod sorter;
-mod time;
 
 pub use foreign::Foreign;
-pub use queue::Queue;
 pub use sensor::Sensor;
 pub use sorter::Sorter;
-pub use time::LONGEST;

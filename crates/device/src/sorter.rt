@@ -1,9 +1,9 @@
 // The sorter: the queue of waits, and the on-time.
 ghost use mathlib.Core.Path.{_≡_};
 ghost use Rattle.device.specs.Sorter.{full, sorting, sorterTicked, queued, sorterOff, sorterFit};
-use crate::queue::Queue;
-use crate::time::LONGEST;
-use crate::time::fallen;
+use queue::Queue;
+use time::fallen;
+use time::is_time;
 
 pub struct Sorter {
     pub queue: Queue,
@@ -81,6 +81,6 @@ impl Sorter {
         ensures { λ r. ⌜ r ≡ sorterFit self ⌝ }
     {
         let queue = self.queue;
-        queue.fit() & (self.on <= LONGEST)
+        queue.fit() & is_time(self.on)
     }
 }

@@ -1,18 +1,20 @@
 // The twelve kinds of event, and which values of their fields are refused 2 (range) or 4 (contradiction).
 // The fields are wide enough to carry values out of range.
 ghost use mathlib.Core.Path.{_≡_};
-ghost use Rattle.event.specs.Setup.{setupRanged, edgeAgrees, setupFit};
+ghost use Rattle.event.specs.Setup.{freshSetup, setupRanged, edgeAgrees, setupFit};
 ghost use Rattle.event.specs.Sample.{sampleRanged};
 ghost use Rattle.event.specs.Event.{eventRanged, eventAgrees};
 ghost use Rattle.event.specs.Kind.{kindOf};
 
+mod last;
 mod reply;
 
-use device::LONGEST;
+pub use last::Last;
 pub use reply::Done;
 pub use reply::Reply;
 use settings::Settings;
 use settings::is_code;
+use time::LONGEST;
 use weight::is_weight;
 
 // What stopped status lets one set up: timers are in ticks of 10 ms, 0 or 1 to 9,999; masks are 0 to 255.
@@ -58,6 +60,37 @@ pub enum Event {
 }
 
 impl Setup {
+    // timers of a fresh line, in ticks of 10 ms
+    pub const TC: u64 = 0;
+
+    pub const TW: u64 = 72;
+
+    pub const TA: u64 = 35;
+
+    pub const TF: u64 = 0;
+
+    pub const TS: u64 = 100;
+
+    pub const TO: u64 = 50;
+
+    pub fn fresh() -> Setup
+        ensures { λ r. ⌜ r ≡ freshSetup ⌝ }
+    {
+        Setup {
+            mode: 1,
+            edge: 2,
+            tc: Setup::TC,
+            tw: Setup::TW,
+            ta: Setup::TA,
+            tf: Setup::TF,
+            ts: Setup::TS,
+            to: Setup::TO,
+            sort: 0,
+            stop: 0,
+            need: 0,
+        }
+    }
+
     pub fn ranged(self) -> bool
         ensures { λ r. ⌜ r ≡ setupRanged self ⌝ }
     {

@@ -7,7 +7,9 @@ use Rattle.device.specs.Sorter.{sorterFit}
 use Rattle.device.specs.Foreign.{foreignFit}
 use Rattle.event.specs.Setup.{setupFit}
 use Rattle.settings.specs.Settings.{isCode}
-use Rattle.line.specs.Fit.{lastFit, statusFit, itemFit, lineFit}
+use Rattle.line.specs.Fit.{statusFit, lineFit}
+use Rattle.event.specs.Sample.{lastFit}
+use Rattle.item.specs.Item.{itemFit}
 use Rattle.undo.specs.Undo.{undoFit}
 use Rattle.line.specs.declared.line.Line.{Line}
 

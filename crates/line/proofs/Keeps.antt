@@ -16,12 +16,14 @@ use Rattle.event.proofs.Facts.{timers, InRange}
 use Rattle.status.specs.Status.{stopped, running, paused, emergency, errorKnown, errorFor}
 use Rattle.line.specs.Line.{busy, withStatus, withSorter, withForeign, withItem}
 use Rattle.event.specs.Reply.{noError}
-use Rattle.line.specs.Fit.{lastFit, statusFit, itemFit}
+use Rattle.line.specs.Fit.{statusFit}
+use Rattle.event.specs.Sample.{lastFit}
+use Rattle.item.specs.Item.{itemFit}
 use Rattle.line.specs.Effect.{halted}
 use Rattle.line.specs.Verdict.{sortedFor, stoppedFor}
 use Rattle.line.specs.Sample.{step1, step4, step5}
 use Rattle.line.specs.declared.line.Line.{Line}
-use Rattle.line.specs.declared.item.Item.{Item}
+use Rattle.item.specs.declared.Item.{Item}
 use Rattle.line.specs.declared.sample.Tick.{Tick}
 use Rattle.line.proofs.Facts.{FitLine}
 

@@ -1,6 +1,5 @@
 pub mod Facts
 pub mod Accepted
-pub mod Items
 pub mod Moves
 pub mod Keeps
 pub mod Ticks

@@ -22,23 +22,23 @@ use Rattle.event.specs.declared.Sample.{Sample}
 use Rattle.event.proofs.Facts.{timers, InRange}
 use Rattle.tally.specs.Tally.{isGrade}
 use Rattle.status.specs.Status.{stopped, running, paused, emergency, errorKnown}
-use Rattle.line.specs.Line.{isRunning, inHand, busy, withStatus, withForeign, withItem}
+use Rattle.line.specs.Line.{isRunning, busy, withStatus, withForeign, withItem}
 use Rattle.event.specs.Reply.{noError}
-use Rattle.line.specs.Fit.{itemFit}
+use Rattle.item.specs.Item.{inHand, itemFit, newItem}
 use Rattle.line.specs.Effect.{plain, halted, halting}
 use Rattle.line.specs.Verdict.{sortedFor, stoppedFor, given, orCrash, verdictOf, judged}
-use Rattle.line.specs.Sample.{step1, step2, step3, step4, step5, step6, step7, afterWeighing, newItem, detecting, runningTick, guarded, fromStep3, sampled, tickOf}
+use Rattle.line.specs.Sample.{step1, step2, step3, step4, step5, step6, step7, afterWeighing, detecting, runningTick, guarded, fromStep3, sampled, tickOf}
 use Rattle.line.specs.Command.{ran, stopping, alarmed}
 use Rattle.line.specs.declared.sample.Tick.{Tick}
 use Rattle.line.specs.declared.line.Line.{Line}
 use Rattle.line.specs.declared.effect.Effect.{Effect}
-use Rattle.line.specs.declared.item.Item.the-variants.{None}
-use Rattle.line.specs.declared.item.Weighed.{Weighed}
+use Rattle.item.specs.declared.Item.the-variants.{None}
+use Rattle.item.specs.declared.Weighed.{Weighed}
 use Rattle.line.proofs.Facts.{FitLine}
 use Rattle.line.proofs.Moves as moves
 use Rattle.line.proofs.Moves.{Moves, Judged, grade-judged, foreign-judged, crash-judged}
 use Rattle.line.proofs.Keeps.{Running, running-status, error-none, with-item, with-foreign, with-paused, fit-step1, fit-step4, fit-step5, fit-sorted, fit-stopped, fit-stop, fit-emergency}
-use Rattle.line.proofs.Items.{Weighs, still, mean, weighing, new-fit, new-in-hand}
+use Rattle.item.proofs.Keeps.{Weighs, still, mean, weighing, new-fit, new-in-hand}
 
 abbrev pub hand : Line → ℕ
 hand l = bit (inHand (l .item))

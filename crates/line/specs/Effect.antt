@@ -3,9 +3,10 @@ use Prim.Native.Nat.{ℕ}
 use lib.IntN.{pos}
 use Rattle.laws.specs.Choice.{if_then_else_, bit}
 use Rattle.device.specs.Sorter.{sorterOff}
-use Rattle.line.specs.Line.{inHand, busy, conveyor, sorterOn, withStatus, withSorter, withItem}
+use Rattle.item.specs.Item.{inHand}
+use Rattle.line.specs.Line.{busy, conveyor, sorterOn, withStatus, withSorter, withItem}
 use Rattle.event.specs.Reply.{noError}
-use Rattle.line.specs.declared.item.Item.the-variants.{None}
+use Rattle.item.specs.declared.Item.the-variants.{None}
 use Rattle.line.specs.declared.line.Line.{Line}
 use Rattle.line.specs.declared.effect.Effect.{Effect}
 use Rattle.event.specs.declared.reply.Reply.{Reply}

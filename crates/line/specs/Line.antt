@@ -1,6 +1,6 @@
--- 01, "Line and memory": statuses, the item in hand, busy, the fresh line; and the line with one part anew.
+-- 01, "Line and memory": statuses, busy, the fresh line; and the line with one part anew.
 use Prim.Native.Nat.{ℕ}
-use mathlib.Core.Bool.{Bool, true, false, _&&_, _||_, not}
+use mathlib.Core.Bool.{Bool, _&&_, _||_, not}
 use lib.Dec.{eqb, ltb}
 use lib.IntN.{pos}
 use Rattle.status.specs.Status.{stopped, running}
@@ -10,22 +10,18 @@ use Rattle.device.specs.declared.sensor.Sensor.{Sensor}
 use Rattle.device.specs.declared.sorter.Sorter.{Sorter}
 use Rattle.device.specs.declared.foreign.Foreign.{Foreign}
 use Rattle.event.specs.Reply.{noError}
+use Rattle.event.specs.Setup.{freshSetup}
 use Rattle.event.specs.declared.Setup.{Setup}
-use Rattle.line.specs.declared.item.Item.{Item}
-use Rattle.line.specs.declared.item.Item.the-variants.{None, Waiting, Averaging}
+use Rattle.item.specs.Item.{inHand}
+use Rattle.item.specs.declared.Item.{Item}
+use Rattle.item.specs.declared.Item.the-variants.{None}
 use Rattle.undo.specs.declared.Undo.{Undo}
 use Rattle.undo.specs.Undo.{nothing}
-use Rattle.line.specs.declared.line.Last.{Last}
+use Rattle.event.specs.declared.last.Last.{Last}
 use Rattle.line.specs.declared.line.Line.{Line}
 
 abbrev pub isRunning : Line → Bool
 isRunning l = eqb (l .status) running
-
--- an item is in hand
-abbrev pub inHand : Item → Bool
-inHand None = false
-inHand (Waiting k) = true
-inHand (Averaging k s) = true
 
 -- "Busy: an item is in hand, the sorter queue isn't empty, or the on-time is above 0"
 unfoldable pub busy : Line → Bool
@@ -38,11 +34,6 @@ conveyor l = isRunning l && not (eqb (l .setup .mode) 2 && inHand (l .item))
 -- "Sorter is 1 when running with on-time above 0."
 unfoldable pub sorterOn : Line → Bool
 sorterOn l = isRunning l && ltb 0 (l .sorter .on)
-
--- "mode 1, edge 2, tc 0, tw 72, ta 35, tf 0, ts 100, to 50, and sort, stop and need 0"
-abbrev pub freshSetup : Setup
-freshSetup =
-    record { mode = 1; edge = 2; tc = 0; tw = 72; ta = 35; tf = 0; ts = 100; to = 50; sort = 0; stop = 0; need = 0 }
 
 -- "A fresh line is stopped, on code 0, with sensor and foreign levels 0, last gross 0, no foreign signal, error none, nothing to cancel";
 -- "the last sample's safety (255 if fresh)"

@@ -1,11 +1,10 @@
 -- 01, "Sample": the seven steps in order.
-use Prim.Native.Nat.{ℕ, _-_}
+use Prim.Native.Nat.{ℕ}
 use mathlib.Core.Bool.{Bool, true, _&&_}
 use mathlib.Core.Path.{_≡_}
-use lib.Dec.{eqb, ltb}
-use lib.IntN.{ℤ, pos, _+ℤ_}
+use lib.Dec.{eqb}
+use lib.IntN.{pos}
 use Rattle.laws.specs.Choice.{if_then_else_}
-use Rattle.weight.specs.Mean.{rounded}
 use Rattle.weight.specs.Weight.{isWeight}
 use Rattle.mask.specs.Bits.{lowestOff}
 use Rattle.settings.specs.Settings.{recordFit}
@@ -14,17 +13,15 @@ use Rattle.device.specs.Sensor.{settled}
 use Rattle.device.specs.Sorter.{sorterTicked}
 use Rattle.device.specs.Foreign.{foreignTicked}
 use Rattle.event.specs.Setup.{setupFit}
-use Rattle.event.specs.declared.Setup.{Setup}
 use Rattle.event.specs.declared.Sample.{Sample}
 use Rattle.status.specs.Status.{stopped, paused, emergency, unsafeError}
-use Rattle.line.specs.Line.{isRunning, inHand, withStatus, withSensed, withForeign, withItem, withSorter}
-use Rattle.line.specs.Fit.{itemFit}
+use Rattle.item.specs.Item.{inHand, itemFit, newItem, weighed}
+use Rattle.item.specs.declared.Item.the-variants.{None}
+use Rattle.item.specs.declared.Weighed.{Weighed}
+use Rattle.item.specs.declared.Weighed.the-variants.{Still, Mean}
+use Rattle.line.specs.Line.{isRunning, withStatus, withSensed, withForeign, withItem, withSorter}
 use Rattle.line.specs.Effect.{plain, halting}
 use Rattle.line.specs.Verdict.{given, judged}
-use Rattle.line.specs.declared.item.Item.{Item}
-use Rattle.line.specs.declared.item.Item.the-variants.{None, Waiting, Averaging}
-use Rattle.line.specs.declared.item.Weighed.{Weighed}
-use Rattle.line.specs.declared.item.Weighed.the-variants.{Still, Mean}
 use Rattle.line.specs.declared.sample.Tick.{Tick}
 use Rattle.line.specs.declared.line.Line.{Line}
 use Rattle.line.specs.declared.effect.Effect.{Effect}
@@ -79,24 +76,13 @@ step4 l = withSorter l (sorterTicked (l .sorter) (l .setup .to))
 unfoldable pub step5 : Line → Tick → Line
 step5 l t = withForeign l (foreignTicked (l .foreign) (t .rises) (l .setup .tf))
 
--- "An item detected at running tick d is averaged over ticks d+tw+1 to d+tw+ta. On the last, m = sum / ta"
-unfoldable pub weighed : Item → ℕ → ℤ → Weighed
-weighed None ta gross = Still None
-weighed (Waiting k) ta gross = Still (if ltb 1 k then Waiting (k - 1) else Averaging ta (pos 0))
-weighed (Averaging k sum) ta gross =
-    if ltb 1 k then Still (Averaging (k - 1) (sum +ℤ gross)) else Mean (rounded (sum +ℤ gross) ta)
-
 unfoldable pub afterWeighing : Line → Settings → Weighed → Effect
 afterWeighing l a (Still i) = plain (withItem l i)
 afterWeighing l a (Mean m) = judged (withItem l None) a m
 
 -- 6. the item in hand is weighed, and judged on its last tick
 unfoldable pub step6 : Line → Tick → Effect
-step6 l t = afterWeighing l (t .active) (weighed (l .item) (l .setup .ta) (t .gross))
-
--- an item as it is detected
-unfoldable pub newItem : Setup → Item
-newItem s = if eqb (s .tw) 0 then Averaging (s .ta) (pos 0) else Waiting (s .tw)
+step6 l t = afterWeighing l (t .active) (weighed (l .item) (l .setup) (t .gross))
 
 -- "detected. With an item in hand, both become one two-on verdict and nothing is in hand."
 unfoldable pub detecting : Effect → Effect

@@ -2,11 +2,11 @@
 ghost use mathlib.Core.Path.{_≡_};
 ghost use Rattle.laws.specs.Choice.{bit};
 ghost use Rattle.line.specs.Effect.{plain, dismissed, halted, halting, replied};
-use crate::item::Item;
 use crate::line::Line;
 use device::Sorter;
 use event::Done;
 use event::Reply;
+use item::Item;
 
 pub struct Effect {
     pub line: Line,

@@ -1,19 +1,9 @@
 // Whether a line is fit: tested before every event, so that no caller is trusted.
 ghost use mathlib.Core.Path.{_≡_};
-ghost use Rattle.line.specs.Fit.{lastFit, statusFit, lineFit};
-use crate::line::Last;
+ghost use Rattle.line.specs.Fit.{statusFit, lineFit};
 use crate::line::Line;
 use settings::is_code;
 use status::error_known;
-use weight::is_weight;
-
-impl Last {
-    fn fit(self) -> bool
-        ensures { λ r. ⌜ r ≡ lastFit self ⌝ }
-    {
-        is_weight(self.gross) & (self.safety <= 255) & (self.foreign <= 1)
-    }
-}
 
 impl Line {
     // Error none unless paused; stopped or in emergency nothing is in hand, queued or on.
@@ -30,14 +20,10 @@ impl Line {
         known
     }
 
-    // The setup is tested first: the bounds of an item rest on it.
     pub(crate) fn fit(self) -> bool
         ensures { λ r. ⌜ r ≡ lineFit self ⌝ }
     {
         let setup = self.setup;
-        if !setup.fit() {
-            return false;
-        }
         let last = self.last;
         let sensor = self.sensor;
         let sorter = self.sorter;
@@ -45,6 +31,7 @@ impl Line {
         let item = self.item;
         let undo = self.undo;
         is_code(self.code)
+            & setup.fit()
             & last.fit()
             & sensor.fit()
             & self.status_fit()

@@ -4,7 +4,6 @@ mod command;
 mod effect;
 mod faults;
 mod fit;
-mod item;
 mod line;
 mod sample;
 mod step;
@@ -13,9 +12,6 @@ mod tallying;
 mod verdict;
 
 pub use effect::Effect;
-pub use item::Item;
-pub use item::Weighed;
-pub use line::Last;
 pub use line::Line;
 pub use step::Step;
 pub use storing::Storing;

@@ -1,22 +1,16 @@
 // The line's record. An event takes it and gives back the next one.
 ghost use mathlib.Core.Path.{_≡_};
-ghost use Rattle.line.specs.Line.{busy, conveyor, sorterOn, freshSetup, freshLine, withStatus, withCode, withSetup, withSensed, withForeign, withItem, withSorter, withUndo};
-use crate::item::Item;
+ghost use Rattle.line.specs.Line.{busy, conveyor, sorterOn, freshLine, withStatus, withCode, withSetup, withSensed, withForeign, withItem, withSorter, withUndo};
 use device::Foreign;
-use device::Queue;
 use device::Sensor;
 use device::Sorter;
 use event::Done;
+use event::Last;
 use event::Setup;
+use item::Item;
+use queue::Queue;
 use tally::Tally;
 use undo::Undo;
-
-// What the last sample said.
-pub struct Last {
-    pub gross: i64,
-    pub safety: u64,
-    pub foreign: u64,
-}
 
 pub struct Line {
     pub status: u64,
@@ -49,35 +43,17 @@ impl Line {
     pub const QUEUE_LIMIT: u64 = Queue::PLACES;
 
     // timers of a fresh line, in ticks of 10 ms
-    pub const TC: u64 = 0;
+    pub const TC: u64 = Setup::TC;
 
-    pub const TW: u64 = 72;
+    pub const TW: u64 = Setup::TW;
 
-    pub const TA: u64 = 35;
+    pub const TA: u64 = Setup::TA;
 
-    pub const TF: u64 = 0;
+    pub const TF: u64 = Setup::TF;
 
-    pub const TS: u64 = 100;
+    pub const TS: u64 = Setup::TS;
 
-    pub const TO: u64 = 50;
-
-    fn fresh_setup() -> Setup
-        ensures { λ r. ⌜ r ≡ freshSetup ⌝ }
-    {
-        Setup {
-            mode: 1,
-            edge: 2,
-            tc: Line::TC,
-            tw: Line::TW,
-            ta: Line::TA,
-            tf: Line::TF,
-            ts: Line::TS,
-            to: Line::TO,
-            sort: 0,
-            stop: 0,
-            need: 0,
-        }
-    }
+    pub const TO: u64 = Setup::TO;
 
     pub fn fresh() -> Line
         ensures { λ r. ⌜ r ≡ freshLine ⌝ }
@@ -86,7 +62,7 @@ impl Line {
             status: Line::STOPPED,
             error: Line::NO_ERROR,
             code: 0,
-            setup: Line::fresh_setup(),
+            setup: Setup::fresh(),
             sensor: Sensor { level: 0, run: 0 },
             last: Last {
                 gross: 0,

@@ -6,12 +6,12 @@ ghost use Rattle.event.specs.Sample.{sampleRanged};
 ghost use Rattle.line.specs.Fit.{lineFit};
 ghost use Rattle.line.specs.Sample.{Ready, step1, edgeMade, foreignRises, step4, step5, step6, detecting, step7, runningTick, sampled};
 use crate::effect::Effect;
-use crate::item::Item;
-use crate::item::Weighed;
-use crate::item::new_item;
-use crate::line::Last;
 use crate::line::Line;
+use event::Last;
 use event::Sample;
+use item::Item;
+use item::Weighed;
+use item::new_item;
 use settings::Settings;
 
 // What a running tick is given: the active code's record, the gross (divisions), whether the foreign level rose and whether

@@ -3,11 +3,12 @@ use mathlib.Core.Path.{refl}
 use Rattle.claim.specs.Run.{run, runFrom}
 use Rattle.line.specs.Line.{freshLine, busy, conveyor, sorterOn}
 use Rattle.status.specs.Status.{errorKnown, errorFor}
-use Rattle.line.specs.Fit.{lastFit, itemFit, statusFit, lineFit}
+use Rattle.line.specs.Fit.{statusFit, lineFit}
+use Rattle.item.specs.Item.{itemFit, newItem, ticked, weighed}
 use Rattle.undo.specs.Undo.{undoFit, takesAt}
 use Rattle.line.specs.Effect.{halted, halting, replied}
 use Rattle.line.specs.Verdict.{sortedFor, stoppedFor, given, orCrash, verdictOf, judged}
-use Rattle.line.specs.Sample.{step1, edgeMade, foreignRises, step2, step3, step4, step5, weighed, afterWeighing, step6, newItem, detecting, step7, runningTick, guarded, fromStep3, sampled}
+use Rattle.line.specs.Sample.{step1, edgeMade, foreignRises, step2, step3, step4, step5, afterWeighing, step6, detecting, step7, runningTick, guarded, fromStep3, sampled}
 use Rattle.line.specs.Command.{ran, stopping, alarmed}
 use Rattle.line.specs.Tallying.{noted, recorded, codeCleared}
 use Rattle.refusal.specs.Rows.{lengthsWrong, readsRecord, readsTally, statusWrong, runUnsafe, runOccupied, nothingToCancel}
@@ -17,21 +18,21 @@ use Rattle.tally.specs.Tally.{tallyFit, hasRoom, takes, largestWith, smallestWi
 use Rattle.tallies.specs.Memory.{part, tallyOf, unsigned, partFit, fitAt, withTally, zeros}
 use Rattle.device.specs.Sensor.{settled, sensorFit}
 use Rattle.lists.specs.Each.{anyOf, allOf, without}
-use Rattle.device.specs.Queue.{waitsOf, laid, waiting, isEmpty, isFull, queueTicked, oneEnds, joined, queueFit}
+use Rattle.queue.specs.Queue.{waitsOf, laid, waiting, isEmpty, isFull, queueTicked, oneEnds, joined, queueFit}
 use Rattle.device.specs.Sorter.{full, sorting, sorterTicked, queued, sorterOff, sorterFit}
 use Rattle.device.specs.Foreign.{due, delayFallen, started, signalled, foreignTicked, flagUsed, noSignal, foreignFit}
 use Rattle.mask.specs.Bits.{marked, firstOff}
 use Rattle.settings.specs.Settings.{recordRanged, limitsOrdered}
 use Rattle.settings.specs.Grade.{gradeOf}
 use Rattle.event.specs.Setup.{setupRanged, edgeAgrees}
-use Rattle.event.specs.Sample.{sampleRanged}
+use Rattle.event.specs.Sample.{sampleRanged, lastFit}
 use Rattle.event.specs.Event.{eventRanged, eventAgrees}
 use Rattle.weight.specs.Mean.{nearest, rounded}
 use Rattle.claim.proofs.worked_example.Statement.{statement}
 use Rattle.claim.proofs.worked_example.Tie as tie
 
 returns : tie.Need-returns
-unfolding run runFrom freshLine busy conveyor sorterOn lastFit sensorFit errorKnown itemFit undoFit statusFit lineFit halted halting replied sortedFor errorFor stoppedFor given orCrash verdictOf judged step1 edgeMade foreignRises step2 step3 step4 step5 weighed afterWeighing step6 newItem detecting step7 runningTick guarded fromStep3 sampled ran stopping alarmed noted recorded codeCleared memorySound lengthsWrong readsRecord readsTally statusWrong runUnsafe runOccupied nothingToCancel refusalOf inputOf accepted stepOf tallyFit hasRoom takes takesAt largestWith smallestWith countedWith weighedWith added part tallyOf unsigned partFit fitAt withTally zeros settled anyOf allOf without waitsOf laid waiting isEmpty isFull queueTicked oneEnds joined queueFit full sorting sorterTicked queued sorterOff sorterFit due delayFallen started signalled foreignTicked flagUsed noSignal foreignFit marked firstOff recordRanged limitsOrdered gradeOf setupRanged edgeAgrees sampleRanged eventRanged eventAgrees nearest rounded
+unfolding run runFrom freshLine busy conveyor sorterOn lastFit sensorFit errorKnown itemFit undoFit statusFit lineFit halted halting replied sortedFor errorFor stoppedFor given orCrash verdictOf judged step1 edgeMade foreignRises step2 step3 step4 step5 ticked weighed afterWeighing step6 newItem detecting step7 runningTick guarded fromStep3 sampled ran stopping alarmed noted recorded codeCleared memorySound lengthsWrong readsRecord readsTally statusWrong runUnsafe runOccupied nothingToCancel refusalOf inputOf accepted stepOf tallyFit hasRoom takes takesAt largestWith smallestWith countedWith weighedWith added part tallyOf unsigned partFit fitAt withTally zeros settled anyOf allOf without waitsOf laid waiting isEmpty isFull queueTicked oneEnds joined queueFit full sorting sorterTicked queued sorterOff sorterFit due delayFallen started signalled foreignTicked flagUsed noSignal foreignFit marked firstOff recordRanged limitsOrdered gradeOf setupRanged edgeAgrees sampleRanged eventRanged eventAgrees nearest rounded
 returns c = refl
 
 pub worked-example-spec : {M : Type 1} → statement M

@@ -1,12 +1,12 @@
 -- `fit` tests the delay. Assumes nothing.
-use mathlib.Core.Path.{refl}
+use borrow.Author.Needs.{needs}
 use Rattle.device.specs.Foreign.{foreignFit}
 use Rattle.device.proofs.foreign.Foreign.fit.Statement.{statement}
 use Rattle.device.proofs.foreign.Foreign.fit.Tie as tie
 
 returns : tie.Need-returns
 unfolding foreignFit
-returns c = refl
+returns c = simp (c .is-time .ensures)
 
 pub fit-spec : {M : Type 1} → statement M
-fit-spec = tie.close (tie.spec returns)
+fit-spec = tie.close (tie.spec (search needs) returns)

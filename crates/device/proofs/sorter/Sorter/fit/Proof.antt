@@ -6,7 +6,7 @@ use Rattle.device.proofs.sorter.Sorter.fit.Tie as tie
 
 returns : tie.Need-returns
 unfolding sorterFit
-returns c = simp (c .before .fit .ensures)
+returns c = simp (c .before .fit .ensures, c .is-time .ensures)
 
 pub fit-spec : {M : Type 1} → statement M
-fit-spec = tie.close (tie.spec (search needs) returns)
+fit-spec = tie.close (tie.spec (search needs) (search needs) returns)

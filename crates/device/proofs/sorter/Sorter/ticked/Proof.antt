@@ -1,9 +1,9 @@
 -- `ticked`: an empty queue stays, and no wait ends. Assumes nothing.
 use mathlib.Core.Bool.{true}
 use mathlib.Core.Path.{_≡_, sym, _∙_}
-use Rattle.device.specs.Queue.{isEmpty}
+use Rattle.queue.specs.Queue.{isEmpty}
 use Rattle.device.specs.Sorter.{sorterTicked}
-use Rattle.device.proofs.Waits.{empty-stays, none-ends}
+use Rattle.queue.proofs.Waits.{empty-stays, none-ends}
 use borrow.Author.Needs.{needs}
 use Rattle.device.proofs.sorter.Sorter.ticked.Statement.{statement}
 use Rattle.device.proofs.sorter.Sorter.ticked.Tie as tie

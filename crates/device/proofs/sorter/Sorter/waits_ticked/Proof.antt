@@ -4,9 +4,9 @@ use borrow.Author.Tests.{lt-ltb, le-ltb}
 use mathlib.Core.Bool.{true, false}
 use mathlib.Core.Path.{_≡_, ap, _∙_}
 use native.Mathlib.Omega.{arith}
-use Rattle.device.specs.Queue.{waiting, queueTicked, oneEnds}
+use Rattle.queue.specs.Queue.{waiting, queueTicked, oneEnds}
 use Rattle.device.specs.Sorter.{sorterTicked}
-use Rattle.device.proofs.Waits.{ends-fewer}
+use Rattle.queue.proofs.Waits.{ends-fewer}
 use Rattle.device.proofs.sorter.Sorter.waits_ticked.Statement.{statement}
 use Rattle.device.proofs.sorter.Sorter.waits_ticked.Tie as tie
 

@@ -3,7 +3,7 @@ use borrow.Author.Needs.{needs}
 use mathlib.Core.Path.{sym, _∙_}
 use Rattle.event.proofs.Facts.{timers}
 use Rattle.laws.proofs.Signed.{back}
-use Rattle.line.proofs.Items.{weighing, mean-weighs}
+use Rattle.item.proofs.Keeps.{weighing, mean-weighs}
 use Rattle.line.specs.Sample.{step6, afterWeighing}
 use Rattle.line.proofs.line.Line.step6.Statement.{statement}
 use Rattle.line.proofs.line.Line.step6.Tie as tie

@@ -1,0 +1,86 @@
+-- `fit`: of the waits, those left decide. Assumes nothing.
+use borrow.Author.Needs.{needs}
+use borrow.Author.Tests.{le-leb, lt-leb, not-true, not-false}
+use mathlib.Core.Bool.{true, false}
+use mathlib.Core.Path.{_≡_, refl, _∙_}
+use Prim.Native.Nat.{_-_, _≤_}
+use native.Mathlib.Omega.{arith}
+use lib.ListN.{length, take, drop}
+use Rattle.laws.specs.Choice.{within}
+use Rattle.lists.specs.Each.{allOf}
+use Rattle.lists.proofs.Each.{all-next, all-end}
+use Rattle.time.specs.Time.{longest}
+use Rattle.queue.specs.Queue.{places, waitsOf, queueFit}
+use Rattle.queue.proofs.Queue.fit.Statement.{statement}
+use Rattle.queue.proofs.Queue.fit.Tie as tie
+
+abbrev Inv-loop : tie.InvT-loop
+Inv-loop waits n i₀ i =
+    (length waits ≡ places) × (n ≤ places) × (i ≤ n)
+    × (allOf (within 1 longest) (take n waits) ≡ allOf (within 1 longest) (drop i (take n waits)))
+
+abbrev μ-loop : tie.MeasureT-loop
+μ-loop waits n i₀ i = n - i
+
+returns : tie.Need-returns Inv-loop μ-loop
+unfolding queueFit waitsOf allOf
+returns c = rw (c .if1 .taken)
+
+returns-2 : tie.Need-returns-2 Inv-loop μ-loop
+unfolding queueFit
+returns-2 c = simp (lt-leb _ _ (c .if2 .taken))
+
+loop-holds : tie.Need-loop-holds Inv-loop μ-loop
+loop-holds c = (search needs, omega arith, omega arith, refl)
+
+mul-wait : tie.Need-mul-wait Inv-loop μ-loop
+mul-wait c = omega arith
+
+array-read-wait : tie.Need-array-read-wait Inv-loop μ-loop
+array-read-wait c = omega arith
+
+returns-3 : tie.Need-returns-3 Inv-loop μ-loop
+unfolding queueFit waitsOf
+returns-3 c =
+    let l = c .before .before .loop in
+    let q = c .before .before .before .before .before .before .before .before .args .self in
+    let next = all-next (within 1 longest) (q .n) (q .waits) (l .i) 0 (omega arith) (omega arith) (not-true _ (c .if3 .taken)) in
+    simp (le-leb (q .n) places (omega arith), l .inv .3 ∙ next)
+
+add-i : tie.Need-add-i Inv-loop μ-loop
+add-i c = omega arith
+
+loop-less : tie.Need-loop-less Inv-loop μ-loop
+loop-less c = omega arith
+
+loop-again : tie.Need-loop-again Inv-loop μ-loop
+loop-again c =
+    let l = c .before .before .loop in
+    let q = c .before .before .before .before .before .before .before .before .args .self in
+    let next = all-next (within 1 longest) (q .n) (q .waits) (l .i) 0 (omega arith) (omega arith) (not-false _ (c .if3 .left)) in
+    (l .inv .0, l .inv .1, omega arith, l .inv .3 ∙ next)
+
+returns-4 : tie.Need-returns-4 Inv-loop μ-loop
+unfolding queueFit waitsOf
+returns-4 c =
+    let l = c .before .loop in
+    let q = c .before .before .before .before .before .before .before .args .self in
+    let i : l .i ≡ q .n = omega arith in
+    simp (le-leb (q .n) places (omega arith), rw i at (l .inv .3), all-end (within 1 longest) (q .n) (q .waits))
+
+pub fit-spec : {M : Type 1} → statement M
+fit-spec =
+    tie.close
+    (tie.spec
+    Inv-loop
+    μ-loop
+    returns
+    returns-2
+    loop-holds
+    mul-wait
+    array-read-wait
+    returns-3
+    add-i
+    loop-less
+    loop-again
+    returns-4)
