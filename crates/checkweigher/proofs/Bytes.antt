@@ -9,13 +9,13 @@ use lib.IntN.{ℤ}
 use lib.ListN.{length, getD, take, drop, length-drop, drop-of-length-le}
 use lib.Seq.{drop-drop, drop-cons, getD-take}
 use Rattle.line.specs.State.{State, state}
-use Rattle.laws.proofs.Tests.{by-cases}
+use Rattle.laws.proofs.Tests.{by-cases, never}
 use Rattle.settings.specs.declared.Settings.{Settings}
 use Rattle.line.specs.declared.line.Line.{Line}
 use Rattle.text.specs.Read.{readLine}
 use Rattle.controller.proofs.Taking.{took-lf, took-other, took-none}
 use Rattle.controller.specs.Serve.{stateAfter}
-use Rattle.text.proofs.Heads.{cut, never}
+use Rattle.lists.proofs.Past.{cut}
 use Rattle.controller.specs.Input.{Progress, holding, tookAll}
 use Rattle.checkweigher.specs.Sessions.{lfAmong, lineLength, endFrom, Ends}
 use Rattle.checkweigher.specs.declared.block.Session.{Session}

@@ -32,3 +32,7 @@ by-cases false f g = g refl
 -- 0 is not 1: what follows where two different variants are said to be one, whose tags `cc` compares
 pub clash : {A : Type 0} → _≡_ {A = ℕ} 0 1 → A
 clash z = absurd (omega arith)
+
+-- a test that both failed and was passed
+pub never : {A : Type 0} → _≡_ {A = Bool} false true → A
+never h = absurd (subst T (sym h) tt)

@@ -11,14 +11,16 @@ use native.Mathlib.Omega.{arith}
 use native.Mathlib.Numerals.{add-one}
 use borrow.Author.Tests.{leb-true, leb-false, eq-eqb, not-true}
 use Rattle.laws.specs.Choice.{if_then_else_}
-use Rattle.laws.proofs.Tests.{both, by-cases}
-use Rattle.text.specs.Number.{Head, none, some, numberHead, fourHead}
+use Rattle.laws.proofs.Tests.{both, by-cases, never}
+use Rattle.numeral.specs.Number.{Head, none, some, numberHead, fourHead, hold}
 use Rattle.text.specs.Form.{Item, byte, number, four, Values, other, values, also, andRest, lineValues, valueCount}
-use Rattle.text.specs.Read.{hold, held, at as value}
-use Rattle.text.specs.Views.{byteIs, heldHead, found, isLiteral, itemOf, itemsOf, valueHead, mostValues, firsts}
-use Rattle.text.specs.declared.number.Found.{Found}
-use Rattle.text.specs.declared.number.Found.the-variants.{Nothing, Value}
-use Rattle.text.proofs.Heads.{never, cut, Byte}
+use Rattle.text.specs.Read.{held, at as value}
+use Rattle.numeral.specs.Found.{byteIs, heldHead, found}
+use Rattle.text.specs.Views.{isLiteral, itemOf, itemsOf, valueHead, mostValues, firsts}
+use Rattle.numeral.specs.declared.Found.{Found}
+use Rattle.numeral.specs.declared.Found.the-variants.{Nothing, Value}
+use Rattle.numeral.proofs.Heads.{Byte}
+use Rattle.lists.proofs.Past.{cut}
 
 abbrev pub prepend : List ℤ → Values → Values
 prepend vs other = other

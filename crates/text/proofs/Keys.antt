@@ -9,18 +9,20 @@ use lib.IntN.{ℤ, pos}
 use lib.ListN.{length, getD, take, drop, drop-of-length-le, length-drop}
 use lib.Seq.{drop-drop, take-all}
 use borrow.Author.Tests.{eqb-true}
-use Rattle.laws.proofs.Tests.{both, by-cases}
+use Rattle.laws.proofs.Tests.{both, by-cases, never}
 use Rattle.decimal.specs.Bytes.{bytes}
-use Rattle.text.specs.Number.{Head, none, some, numberHead}
+use Rattle.numeral.specs.Number.{Head, none, some, numberHead, limit, hold, unsignedOf}
 use Rattle.text.specs.Form.{Item, byte, number, Values, values, also, andRest, lineValues}
-use Rattle.text.specs.Read.{limit, hold, held, unsignedOf, sample, says, firstOf}
-use Rattle.text.specs.Views.{byteIs, heldHead, isPrefix, isLevel, sensorKey, emergencyKey, safetyKey, foreignKey, grossKey, headIs, middleIs}
+use Rattle.text.specs.Read.{held, sample, says, firstOf}
+use Rattle.numeral.specs.Found.{byteIs, heldHead}
+use Rattle.text.specs.Views.{isPrefix, isLevel, sensorKey, emergencyKey, safetyKey, foreignKey, grossKey, headIs, middleIs}
 use mathlib.Core.Logic.{_⊎_, ⊎-elim}
 use Rattle.event.specs.declared.Event.{Event}
 use Rattle.event.specs.declared.Event.the-variants as event
 use Rattle.text.specs.declared.Read.{Read}
 use Rattle.text.specs.declared.Read.the-variants as read
-use Rattle.text.proofs.Heads.{never, cut, inside}
+use Rattle.numeral.proofs.Heads.{inside}
+use Rattle.lists.proofs.Past.{cut}
 use Rattle.text.proofs.Filling.{held-also}
 
 -- ---- the tests of the code

@@ -1,4 +1,3 @@
-pub mod Heads
 pub mod Filling
 pub mod Saying
 pub mod Keys

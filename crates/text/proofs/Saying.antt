@@ -10,7 +10,7 @@ use native.Mathlib.Omega.{arith}
 use lib.Dec.{eqb}
 use borrow.Author.Tests.{ne-eqb}
 use Rattle.laws.specs.Choice.{if_then_else_}
-use Rattle.laws.proofs.Tests.{by-cases}
+use Rattle.laws.proofs.Tests.{by-cases, never}
 use Rattle.event.specs.declared.Event.{Event}
 use Rattle.text.specs.Form.{Item, byte, wordItems, Values, other, values, lineValues}
 use Rattle.text.specs.Read.{held, at, Kind, command, commands, kinds, says, firstOf}
@@ -18,7 +18,6 @@ use Rattle.text.specs.Views.{reads, firsts}
 use Rattle.text.specs.declared.form.Fields.{Fields}
 use Rattle.text.specs.declared.Read.{Read}
 use Rattle.text.specs.declared.Read.the-variants as read
-use Rattle.text.proofs.Heads.{never}
 
 -- a kind of n values, as `read_form` answers
 module _ (k : Kind) (n : ℕ) (more : List Kind) (s : List ℕ) (r : Fields)

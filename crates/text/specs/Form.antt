@@ -7,7 +7,7 @@ use Prim.Native.Char.{code}
 use Prim.Native.String.{String, [] as empty, _∷_ as _then_}
 use Rattle.laws.specs.Choice.{if_then_else_}
 use Rattle.decimal.specs.Number.{numberText}
-use Rattle.text.specs.Number.{Head, none, some, numberHead, fourHead, fourText}
+use Rattle.numeral.specs.Number.{Head, none, some, numberHead, fourHead, fourText}
 
 -- one byte as it stands, a number, or four digits
 pub data Item : Type 0 where

@@ -1,4 +1,3 @@
-pub mod Number
 pub mod Form
 pub mod Read
 pub mod Views

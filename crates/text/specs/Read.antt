@@ -1,9 +1,9 @@
 -- 01, "Text lines": what a line says.
-use Prim.Native.Nat.{ℕ, suc, min}
+use Prim.Native.Nat.{ℕ}
 use mathlib.Core.List.{List, [], _∷_, _++_, map}
 use lib.ListN.{length, getD}
 use lib.Dec.{leb}
-use lib.IntN.{ℤ, pos, negsuc, negℤ}
+use lib.IntN.{ℤ, pos}
 use Prim.Native.String.{String}
 use Rattle.laws.specs.Choice.{if_then_else_}
 use Rattle.settings.specs.declared.Settings.{Settings}
@@ -11,28 +11,15 @@ use Rattle.event.specs.declared.Setup.{Setup}
 use Rattle.event.specs.declared.Sample.{Sample}
 use Rattle.event.specs.declared.Event.{Event}
 use Rattle.event.specs.declared.Event.the-variants as event
+use Rattle.numeral.specs.Number.{hold, unsignedOf}
 use Rattle.text.specs.declared.Read.{Read}
 use Rattle.text.specs.declared.Read.the-variants as read
 use Rattle.text.specs.Form.{Item, four, wordItems, fieldsForm, Values, other, values, lineValues}
 
--- "A well-formed number too small or too large, of any number of digits, is refused 2": no field's range reaches
--- this limit, so a number held at it is out of range as the number was.
-abbrev pub limit : ℕ
-limit = 1000000000
-
--- a number, and the numbers of a line, held within the limit
-abbrev pub hold : ℤ → ℤ
-hold (pos n) = pos (min n limit)
-hold (negsuc n) = negℤ (pos (min (suc n) limit))
-
+-- the numbers of a line, held within the limit
 abbrev pub held : Values → Values
 held other = other
 held (values vs) = values (map hold vs)
-
--- a value for a field that is never negative: a negative one, too small, is out of range as the limit is
-abbrev pub unsignedOf : ℤ → ℕ
-unsignedOf (pos n) = n
-unsignedOf (negsuc n) = limit
 
 -- value i of a line, for a field with a sign and for one without
 abbrev pub at : List ℤ → ℕ → ℤ

@@ -1,4 +1,4 @@
--- The reader's parts in the terms of `Number` and `Form`.
+-- The reader's parts in the terms of `Form`.
 use Prim.Native.Nat.{ℕ, zero, suc}
 use Prim.Native.Char.{code}
 use mathlib.Core.Bool.{Bool, true, false, not, _&&_, _||_}
@@ -8,32 +8,10 @@ use lib.Dec.{eqb}
 use lib.IntN.{ℤ, pos}
 use Rattle.laws.specs.Choice.{if_then_else_, within}
 use Rattle.decimal.specs.Bytes.{bytes, digitByte}
-use Rattle.text.specs.Number.{Head, none, some, numberHead, fourDigits, fourNumber, fourHead}
+use Rattle.numeral.specs.Number.{Head, numberHead, fourHead}
 use Rattle.text.specs.Form.{Item, byte, number, four, Values, other, values, valueCount}
-use Rattle.text.specs.Read.{hold, at}
-use Rattle.text.specs.declared.number.Found.{Found}
-use Rattle.text.specs.declared.number.Found.the-variants.{Nothing, Value}
+use Rattle.text.specs.Read.{at}
 use Rattle.text.specs.declared.form.Fields.{Fields}
-
--- the head of a text is the byte c, or a digit of at least low
-abbrev pub byteIs : ℕ → List ℕ → Bool
-byteIs c [] = false
-byteIs c (b ∷ s) = eqb b c
-
-abbrev pub digitFrom : ℕ → List ℕ → Bool
-digitFrom low [] = false
-digitFrom low (b ∷ s) = within low (digitByte 9) b
-
-abbrev pub heldHead : Head → Head
-heldHead none = none
-heldHead (some v rest) = some (hold v) rest
-
-abbrev pub found : List ℕ → Found → Head
-found line Nothing = none
-found line (Value v next) = some v (drop next line)
-
-abbrev pub fourOf : ℕ → ℕ → ℕ → ℕ → ℕ → Found
-fourOf a b c d next = if fourDigits a b c d then Value (pos (fourNumber a b c d)) next else Nothing
 
 -- the source writes a form as a text: # is a number, $ four digits, and any other byte itself
 abbrev pub isLiteral : ℕ → Bool

@@ -4,11 +4,12 @@ ghost use Prim.Native.Nat.{_≤_};
 ghost use lib.ListN.{drop};
 ghost use Rattle.text.specs.Form.{lineValues, valueCount};
 ghost use Rattle.text.specs.Read.{held};
-ghost use Rattle.text.specs.Views.{isLiteral, itemsOf, valueHead, found, heldHead, mostValues, fieldsValues};
-use crate::number::Found;
-use crate::number::byte_at;
-use crate::number::read_four;
-use crate::number::read_number;
+ghost use Rattle.numeral.specs.Found.{found, heldHead};
+ghost use Rattle.text.specs.Views.{isLiteral, itemsOf, valueHead, mostValues, fieldsValues};
+use numeral::Found;
+use numeral::byte_at;
+use numeral::read_four;
+use numeral::read_number;
 
 // A form has at most so many values.
 const MOST_VALUES: usize = 11;

@@ -3,7 +3,6 @@ use event::Event;
 
 mod form;
 mod meaning;
-mod number;
 mod quick;
 mod reader;
 

@@ -3,9 +3,9 @@ ghost use mathlib.Core.Path.{_≡_};
 ghost use Prim.Native.Nat.{_<_};
 ghost use lib.ListN.{length};
 ghost use Rattle.text.specs.Read.{sizeAt, sampleOf, setupOf, settingsOf};
-use crate::number::unsigned_of;
 use event::Sample;
 use event::Setup;
+use numeral::unsigned_of;
 use settings::Settings;
 
 // Value i, for a field that is never negative.

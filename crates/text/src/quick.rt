@@ -6,16 +6,16 @@ ghost use mathlib.Core.Logic.{_⊎_};
 ghost use Prim.Native.Nat.{_<_};
 ghost use lib.ListN.{length, drop, getD};
 ghost use Rattle.text.specs.declared.Read.the-variants.{Other};
-ghost use Rattle.text.specs.Number.{digitOf};
+ghost use Rattle.numeral.specs.Number.{digitOf};
 ghost use Rattle.text.specs.Read.{sample, firstOf};
 ghost use Rattle.text.specs.Views.{isPrefix, isLevel, headIs, middleIs};
 use crate::Read;
-use crate::number::Found;
-use crate::number::read_number;
-use crate::number::unsigned_of;
-use crate::number::wide;
 use event::Event;
 use event::Sample;
+use numeral::Found;
+use numeral::read_number;
+use numeral::unsigned_of;
+use numeral::wide;
 
 // The bytes of `key` stand at a place.
 fn key_at(line: &[u8], at: usize, key: &[u8]) -> bool

@@ -10,14 +10,14 @@ use native.Mathlib.Omega.{arith}
 use borrow.Author.Tests.{le-leb, eq-eqb, ne-eqb, leb-true, eqb-true}
 use Prim.Native.String.{String, [] as empty, _∷_ as _then_}
 use Rattle.laws.specs.Choice.{if_then_else_, within}
-use Rattle.laws.proofs.Tests.{both, clash}
+use Rattle.laws.proofs.Tests.{both, clash, never}
 use Rattle.decimal.specs.Number.{decimal, numberText}
 use Rattle.decimal.proofs.Digits.{decimal-digit, decimal-more, by-digits}
-use Rattle.text.specs.Number.{Head, none, some, isDigit, signed, digits, positive, numberHead, fourDigits, fourNumber, fourHead, fourText}
+use Rattle.numeral.specs.Number.{Head, none, some, isDigit, signed, digits, positive, numberHead, fourDigits, fourNumber, fourHead, fourText}
 use Rattle.text.specs.Form.{Item, byte, number, four, wordItems, fieldItems, moreItems, fieldsForm, Values, other, values, also, andRest, lineValues, lineText}
 use Rattle.wording.specs.OneText.{OneText}
-use Rattle.text.specs.Views.{digitFrom}
-use Rattle.text.proofs.Heads.{never, digits-end, digit-bounds, four-bounds}
+use Rattle.numeral.specs.Found.{digitFrom}
+use Rattle.numeral.proofs.Heads.{digits-end, digit-bounds, four-bounds}
 
 -- Writing, then reading.
 

@@ -6,7 +6,8 @@ use Rattle.decimal.specs.Bytes.{bytes}
 use Rattle.text.specs.declared.Read.{Read}
 use Rattle.text.specs.declared.Read.the-variants as read
 use Rattle.event.specs.declared.Event.the-variants as event
-use Rattle.text.specs.Read.{limit, readLine}
+use Rattle.numeral.specs.Number.{limit}
+use Rattle.text.specs.Read.{readLine}
 
 abbrev pub said : String → Read
 said s = readLine (bytes s)

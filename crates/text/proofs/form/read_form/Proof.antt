@@ -9,7 +9,7 @@ use denote.Ref.{now}
 use borrow.Author.Tests.{not-true, not-false}
 use Rattle.laws.proofs.Signed.{back}
 use Rattle.text.specs.Views.{mostValues}
-use Rattle.text.proofs.Heads.{byte-here}
+use Rattle.numeral.proofs.Heads.{byte-here}
 use Rattle.text.proofs.Filling.{State, start, byte-found, byte-missing, value-missing, value-room, value-found, ended}
 use Rattle.text.proofs.form.read_form.Statement.{statement}
 use Rattle.text.proofs.form.read_form.Tie as tie

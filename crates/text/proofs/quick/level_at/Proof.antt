@@ -1,7 +1,7 @@
 -- `level_at` compares the head of the rest. Assumes nothing.
 use borrow.Author.Needs.{needs}
 use denote.Ref.{now}
-use Rattle.text.proofs.Heads.{cut}
+use Rattle.lists.proofs.Past.{cut}
 use Rattle.text.proofs.Keys.{level-end}
 use Rattle.text.proofs.quick.level_at.Statement.{statement}
 use Rattle.text.proofs.quick.level_at.Tie as tie
