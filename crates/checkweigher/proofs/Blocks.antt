@@ -1,4 +1,4 @@
--- The calls of `begin`, `serve_lines` and `rest`, as `Lines.antt` has those of `serve` and `next`: what each asks, and what is had once it has returned. No contract says what the output is: it is some list of the same length.
+-- The calls of `begin`, `serve_lines` and `rest`, as `Lines.antt` has those of `serve` and `next`: what each asks, and what is had once it has returned.
 -- Of each only the contract is known. The machine values are variables. Assumes `Given`.
 use mathlib.Core.Path.{_≡_}
 use Prim.Native.Nat.{ℕ}
@@ -29,8 +29,7 @@ use denote.Triple.Clauses.{ensured, lasts}
 use Rattle.line.specs.State.{state}
 use Rattle.settings.specs.declared.Settings.{Settings}
 use Rattle.line.specs.declared.line.Line.{Line}
-use Rattle.controller.specs.Input.{holding, tookAll}
-use Rattle.checkweigher.specs.Sessions.{Ends, Begins, TookUpTo}
+use Rattle.checkweigher.specs.Sessions.{Ends, Begins, AnsweredUpTo}
 use Rattle.checkweigher.specs.declared.block.Session.{Session}
 use Rattle.settings.proofs.Settings as T
 use Rattle.settings.proofs.Settings.Laws as T′
@@ -85,7 +84,7 @@ module _ {M : Type 1} (𝓤 : URA M) (H : Heap 𝓤) (A : Atoms 𝓤) (mem : Mem
 
   -- ---- `serve_lines`
   module _ (W : Given 𝓤 H A) (κ κ₁ κ₂ κ₃ : Lft) (q q₁ q₂ q₃ : Share) (x : Session) (xv : Val) (b o n : ℕ) (γ : GName) (ys : List Settings) (b₁ o₁ n₁ : ℕ) (γ₁ : GName) (ts : List ℤ) (b₂ o₂ n₂ : ℕ) (γ₂ : GName) (xs : List ℕ)
-      (b₃ o₃ n₃ : ℕ) (γ₃ : GName) (us : List ℕ) (x-is : Is S.the-row x (xv ∷ [])) (ends : Ends xs x) where
+      (b₃ o₃ n₃ : ℕ) (γ₃ : GName) (us : List ℕ) (x-is : Is S.the-row x (xv ∷ [])) (ends : (Ends xs (length us) x) × (x .at ≡ 0)) where
     abbrev args : Session × (RefT (List Settings) × (RefT (List ℤ) × (RefT (List ℕ) × (RefT (List ℕ) × Unit {0}))))
     args = (x, (ref b o γ ys, (ref b₁ o₁ γ₁ ts, (ref b₂ o₂ γ₂ xs, (ref b₃ o₃ γ₃ us, tt)))))
 
@@ -109,7 +108,7 @@ module _ {M : Type 1} (𝓤 : URA M) (H : Heap 𝓤) (A : Atoms 𝓤) (mem : Mem
     Lasts = Unit {0} × (List Settings × (List ℤ × (Unit {0} × (List ℕ × Unit {0}))))
 
     abbrev Took : Session → Lasts → Type 0
-    Took r ws = TookUpTo (tookAll (holding (state (x .line) ys ts) []) (drop-list (x .start) xs)) xs (r .line) (ws .1 .0) (ws .1 .1 .0) (r .start)
+    Took r ws = AnsweredUpTo (state (x .line) ys ts) (drop-list (x .start) xs) xs (ws .1 .1 .1 .1 .0) (state (r .line) (ws .1 .0) (ws .1 .1 .0)) (r .start) (r .at)
 
     abbrev Left : Val → Session → Lasts → SProp 𝓤
     Left w r ws = guard 𝓤 (Is S.the-row r (w ∷ [])) (guard 𝓤 (Took r ws) (guard 𝓤 (length (ws .1 .0) ≡ length ys) (guard 𝓤 (length (ws .1 .1 .0) ≡ length ts) (guard 𝓤 (length (ws .1 .1 .1 .1 .0) ≡ length us)
@@ -145,7 +144,7 @@ module _ {M : Type 1} (𝓤 : URA M) (H : Heap 𝓤) (A : Atoms 𝓤) (mem : Mem
         owned ! S.the-row (Is S.the-row) (LL.makes S.the-type S′.the-plain 𝓤 H A) x (xv ∷ []) x-is $ fjoin ! $ move ! (1 ∷ 0 ∷ []) $ join ! $ frame ! $ done !
 
     abbrev Same : Block → Type 0
-    Same r = (r .line ≡ x .line) × (r .settings ≡ ss) × (r .start ≡ x .start)
+    Same r = (r .line ≡ x .line) × (r .settings ≡ ss) × (r .start ≡ x .start) × (r .at ≡ x .at)
 
     abbrev Rested : Val → Block → SProp 𝓤
     Rested w r = guard 𝓤 (Same r) (guard 𝓤 (Is B.the-row r (w ∷ [])) (emp 𝓤))

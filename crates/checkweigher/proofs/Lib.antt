@@ -1,6 +1,6 @@
-pub mod Bytes
-pub mod Cuts
-pub mod Moves
+pub mod Prints
+pub mod Goes
+pub mod Traced
 pub mod Sessions
 pub mod Lines
 pub mod Blocks

@@ -1,6 +1,6 @@
 -- The calls of `serve` and `next`: what each asks, and what is had once it has returned.
--- Of each only the contract is known, and of `serve`'s output only that it keeps its length. Assumes `Given`.
-use mathlib.Core.Path.{_≡_, refl, ap}
+-- Of each only the contract is known. Assumes `Given`.
+use mathlib.Core.Path.{_≡_, refl}
 use Prim.Native.Nat.{ℕ, _<_, _^_}
 use mathlib.Core.List.{List, [], _∷_}
 use lib.IntN.{ℤ}
@@ -34,7 +34,7 @@ use Rattle.line.specs.declared.line.Line.{Line}
 use Rattle.line.proofs.line.Line as L
 use Rattle.line.proofs.line.Line.Laws as L′
 use Rattle.text.specs.Read.{readLine}
-use Rattle.controller.specs.Serve.{servedBy, stateAfter, outputAfter}
+use Rattle.controller.specs.Serve.{serving, servedOf}
 use Rattle.controller.specs.declared.Served.{Served}
 use Rattle.controller.proofs.Served as O
 use Rattle.controller.proofs.Served.Laws as O′
@@ -44,7 +44,7 @@ use Rattle.checkweigher.specs.declared.block.Session.{Session}
 use Rattle.checkweigher.proofs.block.Session as S
 use Rattle.checkweigher.proofs.block.Session.Laws as S′
 use Rattle.checkweigher.proofs.block.next as next
-use Rattle.checkweigher.proofs.Bytes.{Answers}
+use Rattle.checkweigher.proofs.Goes.{Answers}
 use Rattle.checkweigher.proofs.Sessions.{sessionVal, Whole, whole-of}
 
 module _ {M : Type 1} (𝓤 : URA M) (H : Heap 𝓤) (A : Atoms 𝓤) (mem : Memory → SProp 𝓤) (run : Routine → Fun 𝓤) where
@@ -89,7 +89,7 @@ module _ {M : Type 1} (𝓤 : URA M) (H : Heap 𝓤) (A : Atoms 𝓤) (mem : Mem
     Lasts = Unit {0} × (List Settings × (List ℤ × (Unit {0} × (List ℕ × (Unit {0} × Unit {0})))))
 
     abbrev Done : Val → Served → List Settings → List ℤ → List ℕ → SProp 𝓤
-    Done w r zs vs os = guard 𝓤 (Is O.the-row r (w ∷ [])) (guard 𝓤 (Answers line ys ts tx (r .line) zs vs) (guard 𝓤 (length zs ≡ length ys) (guard 𝓤 (length vs ≡ length ts) (guard 𝓤 (length os ≡ length us)
+    Done w r zs vs os = guard 𝓤 (Is O.the-row r (w ∷ [])) (guard 𝓤 (Answers line ys ts tx us at r zs vs os) (guard 𝓤 (length zs ≡ length ys) (guard 𝓤 (length vs ≡ length ts) (guard 𝓤 (length os ≡ length us)
         (sep 𝓤 (sem 𝓤 H A (finally T.the-row γ zs)) (sep 𝓤 (A .lft κ q) (sep 𝓤 (sem 𝓤 H A (finally i64 γ₁ vs)) (sep 𝓤 (A .lft κ₁ q₁) (sep 𝓤 (A .lft κ₂ q₂) (sep 𝓤 (sem 𝓤 H A (finally u8 γ₃ os)) (A .lft κ₃ q₃)))))))))))
 
     pub asks-serve : ent 𝓤 (sep 𝓤 (sem 𝓤 H A Own) (sep 𝓤 (A .lft κ q) (sep 𝓤 (sem 𝓤 H A Own₁) (sep 𝓤 (A .lft κ₁ q₁) (sep 𝓤 (sem 𝓤 H A Own₂) (sep 𝓤 (A .lft κ₂ q₂) (sep 𝓤 (sem 𝓤 H A Own₃) (A .lft κ₃ q₃)))))))) (Serve .pre to-serve)
@@ -103,16 +103,16 @@ module _ {M : Type 1} (𝓤 : URA M) (H : Heap 𝓤) (A : Atoms 𝓤) (mem : Mem
     ended-serve w =
         qed W (raw (Serve .post to-serve w) ∷ []) ∵ updating ! $
         use1 W (later (some (λ (r : Served). ((‵ (flft κ q) ⊛ (‵ (flft κ₁ q₁) ⊛ (‵ (flft κ₂ q₂) ⊛ (‵ (flft κ₃ q₃) ⊛ ‵ ftrue)))) ⊛ ‵ (O.the-row .own r (w ∷ []))) ⊛ raw (ensured 𝓤 H A serve.ended (serve.clauses 𝓤 H A mem run) (κ, (κ₁, (κ₂, (κ₃, tt)))) args tt r)))) (id⊢ 𝓤 _) $ await ! tt $ pick ! (λ r.
-        split ! $ move ! (1 ∷ []) $ use1 W (some (λ (ws : Lasts). ‵ (lasts serve.ended (κ, (κ₁, (κ₂, (κ₃, tt)))) args ws) ⊛ (raw (fact 𝓤 (r ≡ servedBy (state line ys ts) (readLine tx) us at)) ⊛ (raw (fact 𝓤 (ws .1 .0 ≡ stateAfter (state line ys ts) (readLine tx) .settings)) ⊛
-        (raw (fact 𝓤 (ws .1 .1 .0 ≡ stateAfter (state line ys ts) (readLine tx) .tallies)) ⊛ raw (fact 𝓤 (ws .1 .1 .1 .1 .0 ≡ outputAfter (state line ys ts) (readLine tx) us at))))))) (id⊢ 𝓤 _) $ pick ! (λ ws. split ! $
-        move ! (1 ∷ []) $ split ! $ heard ! (r ≡ servedBy (state line ys ts) (readLine tx) us at) (λ e. split ! $ heard ! (ws .1 .0 ≡ stateAfter (state line ys ts) (readLine tx) .settings) (λ e₁. split ! $ heard ! (ws .1 .1 .0 ≡ stateAfter (state line ys ts) (readLine tx) .tallies) (λ e₂. drop ! $
+        split ! $ move ! (1 ∷ []) $ use1 W (some (λ (ws : Lasts). ‵ (lasts serve.ended (κ, (κ₁, (κ₂, (κ₃, tt)))) args ws) ⊛ (raw (fact 𝓤 (r ≡ servedOf (serving (state line ys ts) (readLine tx) us at))) ⊛ (raw (fact 𝓤 (ws .1 .0 ≡ serving (state line ys ts) (readLine tx) us at .state .settings)) ⊛
+        (raw (fact 𝓤 (ws .1 .1 .0 ≡ serving (state line ys ts) (readLine tx) us at .state .tallies)) ⊛ raw (fact 𝓤 (ws .1 .1 .1 .1 .0 ≡ serving (state line ys ts) (readLine tx) us at .out))))))) (id⊢ 𝓤 _) $ pick ! (λ ws. split ! $
+        move ! (1 ∷ []) $ split ! $ heard ! (r ≡ servedOf (serving (state line ys ts) (readLine tx) us at)) (λ e. split ! $ heard ! (ws .1 .0 ≡ serving (state line ys ts) (readLine tx) us at .state .settings) (λ e₁. split ! $ heard ! (ws .1 .1 .0 ≡ serving (state line ys ts) (readLine tx) us at .state .tallies) (λ e₂. heard ! (ws .1 .1 .1 .1 .0 ≡ serving (state line ys ts) (readLine tx) us at .out) (λ e₃.
         fsplit ! $ drop ! $ fsplit ! $ fsplit ! $ move ! (1 ∷ []) $ feqL ! (λ m. move ! (1 ∷ []) $ fsplit ! $ fsplit ! $ move ! (1 ∷ []) $ feqL ! (λ m₁. move ! (1 ∷ []) $ fsplit ! $ drop ! $ fsplit ! $ fsplit ! $ move ! (1 ∷ []) $ feqL ! (λ m₃.
         -- [the last output; the other lasts; the last tallies; the last records; the tokens and the result]
         move ! (4 ∷ []) $ split ! $ move ! (1 ∷ []) $ facts ! O.the-row (Is O.the-row) (shows 𝓤 H A O.the-row) r (w ∷ []) (λ is. split ! $ move ! (1 ∷ []) $ split ! $ move ! (1 ∷ []) $ split ! $ move ! (1 ∷ []) $ split ! $ at-once ! $
         -- [κ₃'s token; true; κ₂'s; κ₁'s; κ's; the last output; the other lasts; the last tallies; the last records]
         show ! (λ (r′ : Served). ex 𝓤 (λ (zs : List Settings). ex 𝓤 (λ (vs : List ℤ). ex 𝓤 (Done w r′ zs vs)))) r $ show ! (λ (zs : List Settings). ex 𝓤 (λ (vs : List ℤ). ex 𝓤 (Done w r zs vs))) (ws .1 .0) $
         show ! (λ (vs : List ℤ). ex 𝓤 (Done w r (ws .1 .0) vs)) (ws .1 .1 .0) $ show ! (Done w r (ws .1 .0) (ws .1 .1 .0)) (ws .1 .1 .1 .1 .0) $
-        check ! is $ check ! (ap (λ (d : Served). d .line) e, e₁, e₂) $ check ! m $ check ! m₁ $ check ! m₃ $ keep ! (8 ∷ 4 ∷ 7 ∷ 3 ∷ 2 ∷ 5 ∷ 0 ∷ []) $ done !)))))))))
+        check ! is $ check ! (e, e₁, e₂, e₃) $ check ! m $ check ! m₁ $ check ! m₃ $ keep ! (8 ∷ 4 ∷ 7 ∷ 3 ∷ 2 ∷ 5 ∷ 0 ∷ []) $ done !))))))))))
 
   -- ---- `next`: both as shared. There is a session
   module _ (W : Given 𝓤 H A) (κ κ₁ : Lft) (q q₁ : Share) (made : Served) (u : Val) (b o n : ℕ) (γ : GName) (xs : List ℕ) (lf : ℕ) (b₁ o₁ n₁ : ℕ) (γ₁ : GName) (us : List ℕ) (made-is : Is O.the-row made (u ∷ [])) (lf-fits : lf < 2 ^ 64) where
@@ -129,7 +129,7 @@ module _ {M : Type 1} (𝓤 : URA M) (H : Heap 𝓤) (A : Atoms 𝓤) (mem : Mem
     Out = ShrSlice (named 1) κ₁ u8 .own (ref b₁ o₁ γ₁ us) (sliceVal (b₁, o₁) n₁ ∷ [])
 
     abbrev Left : Val → Session → Val → SProp 𝓤
-    Left w r lv = guard 𝓤 (w ≡ sessionVal lv r) (guard 𝓤 (Whole r lv) (guard 𝓤 (Follows (made .line) xs lf r) (sep 𝓤 (A .lft κ q) (A .lft κ₁ q₁))))
+    Left w r lv = guard 𝓤 (w ≡ sessionVal lv r) (guard 𝓤 (Whole r lv) (guard 𝓤 (Follows (made .line) (made .at) xs lf (length us) r) (sep 𝓤 (A .lft κ q) (A .lft κ₁ q₁))))
 
     pub asks-next : ent 𝓤 (sep 𝓤 (sem 𝓤 H A In) (sep 𝓤 (A .lft κ q) (sep 𝓤 (sem 𝓤 H A Out) (A .lft κ₁ q₁)))) (Next .pre to-next)
     asks-next =
@@ -143,8 +143,8 @@ module _ {M : Type 1} (𝓤 : URA M) (H : Heap 𝓤) (A : Atoms 𝓤) (mem : Mem
         qed W (raw (Next .post to-next w) ∷ []) ∵ updating ! $
         use1 W (later (some (λ (r : Session). ((‵ (flft κ q) ⊛ (‵ (flft κ₁ q₁) ⊛ ‵ ftrue)) ⊛ ‵ (S.the-row .own r (w ∷ []))) ⊛ raw (ensured 𝓤 H A next.ended (next.clauses 𝓤 H A mem run) (κ, (κ₁, tt)) args-n tt r)))) (id⊢ 𝓤 _) $ await ! tt $ pick ! (λ r.
         split ! $ move ! (1 ∷ []) $ use1 W (some (λ (ws : Unit {0} × (Unit {0} × (Unit {0} × (Unit {0} × Unit {0})))).
-        ‵ (lasts next.ended (κ, (κ₁, tt)) args-n ws) ⊛ raw (fact 𝓤 (Follows (made .line) xs lf r)))) (id⊢ 𝓤 _) $ pick ! (λ ws.
-        split ! $ drop ! $ heard ! (Follows (made .line) xs lf r) (λ h.
+        ‵ (lasts next.ended (κ, (κ₁, tt)) args-n ws) ⊛ raw (fact 𝓤 (Follows (made .line) (made .at) xs lf (length us) r)))) (id⊢ 𝓤 _) $ pick ! (λ ws.
+        split ! $ drop ! $ heard ! (Follows (made .line) (made .at) xs lf (length us) r) (λ h.
         split ! $ move ! (1 ∷ []) $ facts ! S.the-row (Is S.the-row) (shows 𝓤 H A S.the-row) r (w ∷ []) (λ is. split ! $ move ! (1 ∷ []) $ split ! $ at-once ! $
         -- [κ₁'s token; true; κ's]
         show ! (λ (r′ : Session). ex 𝓤 (Left w r′)) r $ show ! (Left w r) (L′.lowered (r .line)) $

@@ -1,2 +1,2 @@
 pub mod Sessions
-pub mod Reads
+pub mod Traces

@@ -1,44 +1,40 @@
--- A session over a block of the input: where its line of text begins and ends.
-use Prim.Native.Nat.{ℕ, zero, suc, _+_, _≤_, _<_}
+-- A session over a block of the input: where its line of text begins and ends, and what has been answered.
+use Prim.Native.Nat.{ℕ, _+_, _≤_, _<_}
 use mathlib.Core.Path.{_≡_}
-use mathlib.Core.Bool.{Bool, false, _||_}
-use mathlib.Core.List.{List, [], _∷_}
-use lib.Dec.{eqb}
-use lib.IntN.{ℤ}
-use lib.ListN.{length, getD, drop}
-use Rattle.line.specs.State.{state}
+use mathlib.Core.Bool.{false}
+use mathlib.Core.List.{List, _++_}
+use lib.ListN.{length, take, drop}
 use Rattle.laws.specs.Choice.{if_then_else_}
-use Rattle.settings.specs.declared.Settings.{Settings}
+use Rattle.line.specs.State.{State}
 use Rattle.line.specs.declared.line.Line.{Line}
-use Rattle.controller.specs.Input.{Progress, holding}
+use Rattle.blocks.specs.Lines.{NoLf, endFrom}
+use Rattle.controller.specs.Answer.{noRoom}
+use Rattle.controller.specs.Input.{printed}
 use Rattle.checkweigher.specs.declared.block.Session.{Session}
 
--- an LF is among the first k bytes
-abbrev pub lfAmong : List ℕ → ℕ → Bool
-lfAmong s zero = false
-lfAmong s (suc k) = lfAmong s k || eqb (getD s k 0) 10
-
--- how long the first line of text is: the bytes before its LF, or all of them
-unfoldable pub lineLength : List ℕ → ℕ
-lineLength [] = 0
-lineLength (b ∷ s) = if eqb b 10 then 0 else suc (lineLength s)
-
--- where the line of text ends that begins at a place of the input
-abbrev pub endFrom : List ℕ → ℕ → ℕ
-endFrom input start = start + lineLength (drop start input)
+-- where the line of text ends that begins at start, if its answer has room behind at; else the input's end
+abbrev pub stopAt : List ℕ → ℕ → ℕ → ℕ → ℕ
+stopAt input room start at = if noRoom room at then length input else endFrom input start
 
 -- a session's line of text begins and ends there
-abbrev pub Ends : List ℕ → Session → Type 0
-Ends input s = (s .start ≤ length input) × (s .end ≡ endFrom input (s .start))
+abbrev pub Ends : List ℕ → ℕ → Session → Type 0
+Ends input room s = (s .start ≤ length input) × (s .end ≡ stopAt input room (s .start) (s .at))
 
 -- a session at the first line of text
 abbrev pub Begins : Line → List ℕ → Session → Type 0
-Begins l input s = (s .line ≡ l) × (s .start ≡ 0) × Ends input s
+Begins l input s = (s .line ≡ l) × (s .start ≡ 0) × (s .end ≡ endFrom input 0) × (s .at ≡ 0)
 
--- a session behind the line of text whose LF stands at lf
-abbrev pub Follows : Line → List ℕ → ℕ → Session → Type 0
-Follows l input lf s = (s .line ≡ l) × (lf < length input → s .start ≡ lf + 1) × Ends input s
+-- a session behind the line of text whose LF stands at lf, and whose answer ends at at
+abbrev pub Follows : Line → ℕ → List ℕ → ℕ → ℕ → Session → Type 0
+Follows l at input lf room s = (s .line ≡ l) × (lf < length input → s .start ≡ lf + 1) × Ends input room s × (s .at ≡ at)
 
--- the line and both memories, with the bytes from start on for the line of text that has begun, are p
-abbrev pub TookUpTo : Progress → List ℕ → Line → List Settings → List ℤ → ℕ → Type 0
-TookUpTo p input l ss ts start = (start ≤ length input) × (holding (state l ss ts) (drop start input) ≡ p)
+-- from the state s the bytes print this text, and then what the bytes left do from the state t, whatever is read behind them
+abbrev pub Says : State → List ℕ → State → List ℕ → List ℕ → Type 0
+Says s bytes t left text = (more : List ℕ) → printed s (bytes ++ more) ≡ text ++ printed t (left ++ more)
+
+-- the first at bytes of the output are what the bytes print, but for those of the input from start on; with room for an answer no complete line of text is left there
+pub record AnsweredUpTo (s : State) (bytes input out : List ℕ) (t : State) (start at : ℕ) : Type 0 where
+  pub place : start ≤ length input
+  pub fits : at ≤ length out
+  pub says : Says s bytes t (drop start input) (take at out)
+  pub all : noRoom (length out) at ≡ false → NoLf (drop start input)

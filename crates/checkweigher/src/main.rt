@@ -1,7 +1,6 @@
 // The checkweigher: lines from standard input, each answered on standard output.
 mod block;
 mod input;
-mod output;
 
 use input::serve_input;
 

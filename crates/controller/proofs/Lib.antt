@@ -1,6 +1,6 @@
 pub mod Behind
-pub mod Taking
 pub mod Texts
 pub mod Memories
 pub mod Others
 pub mod Variants
+pub mod Lines

@@ -28,7 +28,8 @@ use Rattle.text.specs.declared.Read.{Read}
 use Rattle.text.specs.declared.Read.the-variants as Said
 use Rattle.text.proofs.Read as D
 use Rattle.text.proofs.Read.Laws as D′
-use Rattle.controller.specs.Answer.{Answer, replyAnswer, reportAnswer, refusedAnswer}
+use Rattle.print.specs.Reply.{replyText}
+use Rattle.controller.specs.Answer.{reportAnswer, refusedAnswer}
 use Rattle.controller.specs.Serve.{otherAnswer, answerTo, stateAfter}
 
 pub record Tagged (r : Read) (ks ns : List ℕ) : Type 0 where
@@ -64,7 +65,7 @@ event-is : (e : Event) → Is D.the-row (Said.Event e) (D′.lowered (Said.Event
 event-is e g = let p = EL.owed D.the-type D′.the-laws (Said.Event e) _ g .0 in subst (Is E.the-row e) (E′.lowers .val-is e _ p) p
 
 -- ---- in `serve`: the line, the records, the tallies and the answer
-pub record After (r : Read) (l : Line) (ss : List Settings) (ts : List ℤ) (next : Line) (records : List Settings) (tallies : List ℤ) (a : Answer) : Type 0 where
+pub record After (r : Read) (l : Line) (ss : List Settings) (ts : List ℤ) (next : Line) (records : List Settings) (tallies : List ℤ) (a : List ℕ) : Type 0 where
   pub line : next ≡ stateAfter (state l ss ts) r .line
   pub stored : records ≡ stateAfter (state l ss ts) r .settings
   pub tallied : tallies ≡ stateAfter (state l ss ts) r .tallies
@@ -74,16 +75,16 @@ pub record AsEvent (r : Read) (e : Event) : Type 0 where
   pub value : Val
   pub val : D′.lowered r ≡ live 0 (vcons value vnil)
   pub holds : Is D.the-row r (D′.lowered r ∷ []) → Is E.the-row e (value ∷ [])
-  pub after : (l : Line) (ss : List Settings) (ts : List ℤ) → After r l ss ts (stepOn (state l ss ts) e .state .line) (stepOn (state l ss ts) e .state .settings) (stepOn (state l ss ts) e .state .tallies) (replyAnswer (stepOn (state l ss ts) e .reply))
+  pub after : (l : Line) (ss : List Settings) (ts : List ℤ) → After r l ss ts (stepOn (state l ss ts) e .state .line) (stepOn (state l ss ts) e .state .settings) (stepOn (state l ss ts) e .state .tallies) (replyText (stepOn (state l ss ts) e .reply))
 
 -- what `apply` says of the event
 pub after-step : {r : Read} {e : Event} → AsEvent r e → (l : Line) (ss xs : List Settings) (ts ws : List ℤ) (made : Step) → made ≡ stepIn (outOn (state l ss ts) e) → xs ≡ stepOn (state l ss ts) e .state .settings → ws ≡ stepOn (state l ss ts) e .state .tallies
-    → After r l ss ts (made .line) xs ws (replyAnswer (made .reply))
+    → After r l ss ts (made .line) xs ws (replyText (made .reply))
 after-step v l ss xs ts ws made d d₁ d₂ = record {
   line = ap (λ (y : Step). y .line) d ∙ v .after l ss ts .line;
   stored = d₁ ∙ v .after l ss ts .stored;
   tallied = d₂ ∙ v .after l ss ts .tallied;
-  answer = ap (λ (y : Step). replyAnswer (y .reply)) d ∙ v .after l ss ts .answer;
+  answer = ap (λ (y : Step). replyText (y .reply)) d ∙ v .after l ss ts .answer;
 }
 
 pub record AsOther (r : Read) : Type 0 where

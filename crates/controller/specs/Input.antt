@@ -1,30 +1,39 @@
--- 01, "Text lines": "from a fresh line and memory, reads lines from standard input, each up to LF or the end". The input, byte by byte; the end of the input is an LF where a line has begun.
+-- 01, "Text lines": the lines of an input, and from them the line and both memories behind it and what is printed over it.
 use Prim.Native.Nat.{ℕ}
 use mathlib.Core.List.{List, [], _∷_, _++_}
 use lib.Dec.{eqb}
 use Rattle.laws.specs.Choice.{if_then_else_}
+use Rattle.decimal.specs.Bytes.{lf}
 use Rattle.line.specs.State.{State, freshState}
 use Rattle.text.specs.Read.{readLine}
-use Rattle.controller.specs.Serve.{stateAfter}
+use Rattle.controller.specs.Serve.{answerTo, stateAfter}
 
--- what the program holds: the line with both memories, and the line of text that has begun
-pub record Progress : Type 0 where
-  pub state : State
-  pub text : List ℕ
+-- at the end of the input: "nothing behind the last LF is no line"
+abbrev pub lastLine : List ℕ → List (List ℕ)
+lastLine [] = []
+lastLine (b ∷ text) = (b ∷ text) ∷ []
 
-abbrev pub holding : State → List ℕ → Progress
-holding s text = record { state = s; text = text }
+-- "each up to LF or the end", where text is the line that has begun
+unfoldable pub linesFrom : List ℕ → List ℕ → List (List ℕ)
+linesFrom text [] = lastLine text
+linesFrom text (b ∷ s) = if eqb b lf then text ∷ linesFrom [] s else linesFrom (text ++ b ∷ []) s
 
--- "from a fresh line and memory"
-abbrev pub freshProgress : Progress
-freshProgress = holding freshState []
+abbrev pub linesOf : List ℕ → List (List ℕ)
+linesOf input = linesFrom [] input
 
--- a byte: LF ends the line of text, which goes through the controller; any other is a part of it
-abbrev pub took : Progress → ℕ → Progress
-took p b =
-    if eqb b 10 then holding (stateAfter (p .state) (readLine (p .text))) []
-    else holding (p .state) (p .text ++ b ∷ [])
+-- the line and both memories behind lines of text
+unfoldable pub stateBehind : State → List (List ℕ) → State
+stateBehind s [] = s
+stateBehind s (l ∷ ls) = stateBehind (stateAfter s (readLine l)) ls
 
-unfoldable pub tookAll : Progress → List ℕ → Progress
-tookAll p [] = p
-tookAll p (b ∷ s) = tookAll (took p b) s
+-- what is printed over lines of text
+unfoldable pub answersTo : State → List (List ℕ) → List ℕ
+answersTo s [] = []
+answersTo s (l ∷ ls) = answerTo s (readLine l) ++ answersTo (stateAfter s (readLine l)) ls
+
+abbrev pub printed : State → List ℕ → List ℕ
+printed s input = answersTo s (linesOf input)
+
+-- the program: "from a fresh line and memory, reads lines from standard input"
+unfoldable pub program : List ℕ → List ℕ
+program input = printed freshState input

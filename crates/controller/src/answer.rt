@@ -1,35 +1,49 @@
-// Answers in a lent buffer, one behind the other: each goes in from `at` on, and says where it ends. Where there is too little
-// room nothing is written.
+// Answers in a lent buffer, one behind the other: each goes in from `at` on, and says where it ends.
+ghost use Prim.Native.Nat.{_+_, _≤_};
 ghost use mathlib.Core.Path.{_≡_};
-ghost use Rattle.controller.specs.Answer.{replyAnswer, sheetAnswer, reportAnswer, textRefusal, refusedAnswer, putAt, endAt};
+ghost use lib.ListN.{length};
+ghost use Rattle.print.specs.Reply.{replyText};
+ghost use Rattle.print.specs.Sheet.{sheetText};
+ghost use Rattle.controller.specs.Answer.{answerRoom, noRoom, reportAnswer, textRefusal, refusedAnswer, putAt};
 use event::Reply;
 use sheet::Report;
 use sheet::Sheet;
 
-pub(crate) fn put_reply(out: &mut [u8], at: usize, r: Reply) -> usize
-    ensures end { λ n. ⌜ n ≡ endAt at (replyAnswer r) (now (out .entry)) ⌝ }
-    ensures output { λ n. ⌜ now (out .exit) ≡ putAt at (replyAnswer r) (now (out .entry)) ⌝ }
+// No answer is longer, in bytes.
+pub const ANSWER_ROOM: usize = print::SHEET_ROOM;
+
+// Behind the first `at` bytes of a buffer of so many there may be too little room for an answer.
+pub fn no_room(length: usize, at: usize) -> bool
+    ensures { λ r. ⌜ r ≡ noRoom length at ⌝ }
 {
-    if out.len() < at {
-        return at;
+    if length < ANSWER_ROOM {
+        return true;
     }
+    let last = length - ANSWER_ROOM;
+    last < at
+}
+
+pub(crate) fn put_reply(out: &mut [u8], at: usize, r: Reply) -> usize
+    requires { ⌜ at + answerRoom ≤ length (now out) ⌝ }
+    ensures end { λ n. ⌜ n ≡ at + length (replyText r) ⌝ }
+    ensures output { λ n. ⌜ now (out .exit) ≡ putAt at (replyText r) (now (out .entry)) ⌝ }
+{
     let n = print::reply_line(&mut out[at..], r);
     at + n
 }
 
 fn put_sheet(out: &mut [u8], at: usize, code: u64, s: Sheet) -> usize
-    ensures end { λ n. ⌜ n ≡ endAt at (sheetAnswer code s) (now (out .entry)) ⌝ }
-    ensures output { λ n. ⌜ now (out .exit) ≡ putAt at (sheetAnswer code s) (now (out .entry)) ⌝ }
+    requires { ⌜ at + answerRoom ≤ length (now out) ⌝ }
+    ensures end { λ n. ⌜ n ≡ at + length (sheetText code s) ⌝ }
+    ensures output { λ n. ⌜ now (out .exit) ≡ putAt at (sheetText code s) (now (out .entry)) ⌝ }
 {
-    if out.len() < at {
-        return at;
-    }
     let n = print::sheet_lines(&mut out[at..], code, s);
     at + n
 }
 
 pub(crate) fn put_report(out: &mut [u8], at: usize, code: u64, r: Report) -> usize
-    ensures end { λ n. ⌜ n ≡ endAt at (reportAnswer code r) (now (out .entry)) ⌝ }
+    requires { ⌜ at + answerRoom ≤ length (now out) ⌝ }
+    ensures end { λ n. ⌜ n ≡ at + length (reportAnswer code r) ⌝ }
     ensures output { λ n. ⌜ now (out .exit) ≡ putAt at (reportAnswer code r) (now (out .entry)) ⌝ }
 {
     if r.number == 0 {
@@ -54,7 +68,8 @@ fn refusal_of_text(count: usize, tallies: &[i64]) -> u64
 
 // The refusal of text that is no event and no report.
 pub(crate) fn put_refused(out: &mut [u8], at: usize, count: usize, tallies: &[i64]) -> usize
-    ensures end { λ n. ⌜ n ≡ endAt at (refusedAnswer count (now (tallies .entry))) (now (out .entry)) ⌝ }
+    requires { ⌜ at + answerRoom ≤ length (now out) ⌝ }
+    ensures end { λ n. ⌜ n ≡ at + length (refusedAnswer count (now (tallies .entry))) ⌝ }
     ensures output { λ n. ⌜ now (out .exit) ≡ putAt at (refusedAnswer count (now (tallies .entry))) (now (out .entry)) ⌝ }
 {
     let reply = Reply::Refused {

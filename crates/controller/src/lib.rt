@@ -30,17 +30,24 @@
 // `report` is a code's sheet, where its `number` is 0; the memories are only read. It refuses 8, memory, and 2, a code out
 // of range.
 //
-// `serve` is either as a line of text, answered as text. Text that is neither is refused 1.
+// `serve` is either as a line of text, answered as text behind what stands in `out` up to `at`. Text that is neither is
+// refused 1. No answer is longer than `ANSWER_ROOM` bytes; where `out` has less behind `at` (`no_room`), nothing is done and
+// nothing has changed: `full` is 1, and the caller calls again with room.
 //
 // No call has a condition that its caller must see to.
+ghost use Prim.Native.Nat.{_+_, _≤_};
 ghost use mathlib.Core.Path.{_≡_};
-ghost use Rattle.controller.specs.Answer.{replyAnswer, putAt, endAt};
-ghost use Rattle.controller.specs.Serve.{otherAnswer, servedStep, stateAfter, servedBy, outputAfter};
+ghost use lib.ListN.{length};
 ghost use Rattle.line.specs.State.{state};
+ghost use Rattle.print.specs.Reply.{replyText};
 ghost use Rattle.text.specs.Read.{readLine};
+ghost use Rattle.controller.specs.Answer.{answerRoom, putAt};
+ghost use Rattle.controller.specs.Serve.{otherAnswer, servedStep, serving, servedOf};
 
 mod answer;
 
+pub use answer::ANSWER_ROOM;
+pub use answer::no_room;
 use answer::put_refused;
 use answer::put_reply;
 use answer::put_report;
@@ -62,15 +69,18 @@ pub use spread::Spread;
 use text::Read;
 pub use weight::Figure;
 
-// The next line, and where the output ends.
+// The next line, and how many bytes of the output are answers now. `full` is 1 where there was too little room and nothing
+// was done, else 0.
 pub struct Served {
     pub line: Line,
     pub at: usize,
+    pub full: u64,
 }
 
 // What is no event: a report is printed, other text is refused.
 fn not_event(records: &[Settings], tallies: &[i64], said: Read, out: &mut [u8], at: usize) -> usize
-    ensures end { λ r. ⌜ r ≡ endAt at (otherAnswer (now (records .entry)) (now (tallies .entry)) said) (now (out .entry)) ⌝ }
+    requires { ⌜ at + answerRoom ≤ length (now out) ⌝ }
+    ensures end { λ r. ⌜ r ≡ at + length (otherAnswer (now (records .entry)) (now (tallies .entry)) said) ⌝ }
     ensures output { λ r. ⌜ now (out .exit) ≡ putAt at (otherAnswer (now (records .entry)) (now (tallies .entry)) said) (now (out .entry)) ⌝ }
 {
     let Read::Report(code) = said else {
@@ -82,8 +92,9 @@ fn not_event(records: &[Settings], tallies: &[i64], said: Read, out: &mut [u8], 
 
 // A step's reply is written.
 fn answered(step: Step, out: &mut [u8], at: usize) -> Served
-    ensures answer { λ r. ⌜ r ≡ servedStep step (now (out .entry)) at ⌝ }
-    ensures output { λ r. ⌜ now (out .exit) ≡ putAt at (replyAnswer (step .reply)) (now (out .entry)) ⌝ }
+    requires { ⌜ at + answerRoom ≤ length (now out) ⌝ }
+    ensures answer { λ r. ⌜ r ≡ servedStep step at ⌝ }
+    ensures output { λ r. ⌜ now (out .exit) ≡ putAt at (replyText (step .reply)) (now (out .entry)) ⌝ }
 {
     let reply = step.reply;
     let line = step.line;
@@ -91,6 +102,7 @@ fn answered(step: Step, out: &mut [u8], at: usize) -> Served
     Served {
         line: line,
         at: end,
+        full: 0,
     }
 }
 
@@ -104,17 +116,25 @@ pub fn serve(
     out: &mut [u8],
     at: usize,
 ) -> Served
-    ensures answer { λ r. ⌜ r ≡ servedBy (state line (now (records .entry)) (now (tallies .entry))) (readLine (now (text .entry))) (now (out .entry)) at ⌝ }
-    ensures settings { λ r. ⌜ now (records .exit) ≡ stateAfter (state line (now (records .entry)) (now (tallies .entry))) (readLine (now (text .entry))) .settings ⌝ }
-    ensures memory { λ r. ⌜ now (tallies .exit) ≡ stateAfter (state line (now (records .entry)) (now (tallies .entry))) (readLine (now (text .entry))) .tallies ⌝ }
-    ensures output { λ r. ⌜ now (out .exit) ≡ outputAfter (state line (now (records .entry)) (now (tallies .entry))) (readLine (now (text .entry))) (now (out .entry)) at ⌝ }
+    ensures answer { λ r. ⌜ r ≡ servedOf (serving (state line (now (records .entry)) (now (tallies .entry))) (readLine (now (text .entry))) (now (out .entry)) at) ⌝ }
+    ensures settings { λ r. ⌜ now (records .exit) ≡ serving (state line (now (records .entry)) (now (tallies .entry))) (readLine (now (text .entry))) (now (out .entry)) at .state .settings ⌝ }
+    ensures memory { λ r. ⌜ now (tallies .exit) ≡ serving (state line (now (records .entry)) (now (tallies .entry))) (readLine (now (text .entry))) (now (out .entry)) at .state .tallies ⌝ }
+    ensures output { λ r. ⌜ now (out .exit) ≡ serving (state line (now (records .entry)) (now (tallies .entry))) (readLine (now (text .entry))) (now (out .entry)) at .out ⌝ }
 {
+    if no_room(out.len(), at) {
+        return Served {
+            line: line,
+            at: at,
+            full: 1,
+        };
+    }
     let said = text::read_line(text);
     let Read::Event(e) = said else {
         let end = not_event(records, tallies, said, out, at);
         return Served {
             line: line,
             at: end,
+            full: 0,
         };
     };
     let step = line.apply(records, tallies, e);

@@ -36,8 +36,8 @@ pub record Reading : Type 0 where
     tare = pos 0;
   }))
   pub run : said "COPR" ≡ read.Event event.Run
-  pub sample : said "sensor=1 emergency=0 safety=255 foreign=0 gross=-500" ≡ read.Event (event.Sample (record {
-    gross = negsuc 499;
+  pub sample : said "sensor=1 emergency=0 safety=255 foreign=0 gross=500" ≡ read.Event (event.Sample (record {
+    gross = pos 500;
     sensor = 1;
     emergency = 0;
     safety = 255;
@@ -45,6 +45,14 @@ pub record Reading : Type 0 where
   }))
   pub clear : said "CDTL0100" ≡ read.Event (event.ClearCode 100)
   pub report : said "report=0" ≡ read.Report 0
+  -- below 0
+  pub below : said "sensor=1 emergency=0 safety=255 foreign=0 gross=-500" ≡ read.Event (event.Sample (record {
+    gross = negsuc 499;
+    sensor = 1;
+    emergency = 0;
+    safety = 255;
+    foreign = 0;
+  }))
   -- well formed, but too large or too small: carried out of range
   pub large : said "report=99999999999999999999999999999999999999" ≡ read.Report limit
   pub small : said "report=-1" ≡ read.Report limit

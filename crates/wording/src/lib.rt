@@ -17,13 +17,12 @@ pub fn lines_read()
     ensures { λ _. ⌜ Reading ⌝ }
 {}
 
-// What 01's example prints.
+// What 01's example prints, all of it.
 pub fn lines_printed()
     ensures { λ _. ⌜ Printing ⌝ }
 {}
 
-// Behind every input the line and both memories are those that the events of its complete lines give, and the claim holds
-// of them.
+// Behind every input the line and both memories are those that the events of its lines give, and the claim holds of them.
 pub fn claim_of_text()
     ensures { λ _. ⌜ TextClaim ⌝ }
 {}

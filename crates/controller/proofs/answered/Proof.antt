@@ -8,7 +8,7 @@ use Rattle.controller.proofs.answered.Tie as tie
 returns : tie.Need-returns
 returns c =
     let said = c .before .before .put-reply .ensures in
-    (ap (λ (n : ℕ). record { line = c .before .before .before .before .before .before .args .step .line; at = n }) (said .0), said .1)
+    (ap (λ (n : ℕ). record { line = c .before .before .before .before .before .before .args .step .line; at = n; full = 0 }) (said .0), said .1)
 
 pub answered-spec : {M : Type 1} → statement M
 answered-spec = tie.close (tie.spec (search needs) (search needs) returns)

@@ -1,14 +1,47 @@
--- The printed example, by computation. Assumes nothing.
+-- The worked example, by computation. Assumes nothing.
 use mathlib.Core.Path.{refl}
+use Rattle.line.specs.Line.{freshLine, busy, conveyor, sorterOn}
+use Rattle.status.specs.Status.{errorKnown, errorFor}
+use Rattle.line.specs.Fit.{statusFit, lineFit}
+use Rattle.item.specs.Item.{itemFit, newItem, ticked, weighed}
+use Rattle.undo.specs.Undo.{undoFit, takesAt}
+use Rattle.line.specs.Effect.{halted, halting, replied}
+use Rattle.line.specs.Verdict.{sortedFor, stoppedFor, given, orCrash, verdictOf, judged}
+use Rattle.line.specs.Sample.{step1, edgeMade, foreignRises, step2, step3, step4, step5, afterWeighing, step6, detecting, step7, runningTick, guarded, fromStep3, sampled}
+use Rattle.line.specs.Command.{ran, stopping, alarmed}
+use Rattle.line.specs.Tallying.{noted, recorded, codeCleared}
+use Rattle.refusal.specs.Rows.{lengthsWrong, readsRecord, readsTally, statusWrong, runUnsafe, runOccupied, nothingToCancel}
+use Rattle.line.specs.Refusal.{memorySound, refusalOf, inputOf}
+use Rattle.line.specs.Step.{accepted, stepOf}
+use Rattle.tally.specs.Tally.{tallyFit, hasRoom, takes, largestWith, smallestWith, countedWith, weighedWith, added}
+use Rattle.tallies.specs.Memory.{part, tallyOf, unsigned, partFit, fitAt, withTally, zeros}
+use Rattle.device.specs.Sensor.{settled, sensorFit}
+use Rattle.lists.specs.Each.{anyOf, allOf, without}
+use Rattle.queue.specs.Queue.{waitsOf, laid, waiting, isEmpty, isFull, queueTicked, oneEnds, joined, queueFit}
+use Rattle.device.specs.Sorter.{full, sorting, sorterTicked, queued, sorterOff, sorterFit}
+use Rattle.device.specs.Foreign.{due, delayFallen, started, signalled, foreignTicked, flagUsed, noSignal, foreignFit}
+use Rattle.mask.specs.Bits.{marked, firstOff}
+use Rattle.settings.specs.Settings.{recordRanged, limitsOrdered}
+use Rattle.settings.specs.Grade.{gradeOf}
+use Rattle.event.specs.Setup.{setupRanged, edgeAgrees}
+use Rattle.event.specs.Sample.{sampleRanged, lastFit}
+use Rattle.event.specs.Event.{eventRanged, eventAgrees}
+use Rattle.weight.specs.Mean.{nearest, rounded}
+use Rattle.spread.specs.Figures.{reportFit, spreadOf}
+use Rattle.spread.specs.Root.{rootFrom, root}
+use Rattle.sheet.specs.Sheet.{sheetOf}
+use Rattle.sheet.specs.Report.{memoryWrong, reportRefusal, reportOf}
 use Rattle.decimal.specs.Number.{decimal}
 use Rattle.print.specs.Reply.{doneText, refusedText}
 use Rattle.print.specs.Sheet.{sheetText}
+use Rattle.controller.specs.Serve.{otherAnswer, answerTo, stateAfter}
+use Rattle.controller.specs.Input.{linesFrom, answersTo, program}
 use Rattle.wording.proofs.lines_printed.Statement.{statement}
 use Rattle.wording.proofs.lines_printed.Tie as tie
 
 returns : tie.Need-returns
-unfolding decimal doneText refusedText sheetText
-returns c = record { setup = refl; verdict = refl; refused = refl; sheet = refl }
+unfolding freshLine busy conveyor sorterOn lastFit sensorFit errorKnown itemFit undoFit statusFit lineFit halted halting replied sortedFor errorFor stoppedFor given orCrash verdictOf judged step1 edgeMade foreignRises step2 step3 step4 step5 ticked weighed afterWeighing step6 newItem detecting step7 runningTick guarded fromStep3 sampled ran stopping alarmed noted recorded codeCleared memorySound lengthsWrong readsRecord readsTally statusWrong runUnsafe runOccupied nothingToCancel refusalOf inputOf accepted stepOf tallyFit hasRoom takes takesAt largestWith smallestWith countedWith weighedWith added part tallyOf unsigned partFit fitAt withTally zeros settled anyOf allOf without waitsOf laid waiting isEmpty isFull queueTicked oneEnds joined queueFit full sorting sorterTicked queued sorterOff sorterFit due delayFallen started signalled foreignTicked flagUsed noSignal foreignFit marked firstOff recordRanged limitsOrdered gradeOf setupRanged edgeAgrees sampleRanged eventRanged eventAgrees nearest rounded reportFit spreadOf rootFrom root sheetOf memoryWrong reportRefusal reportOf decimal doneText refusedText sheetText otherAnswer answerTo stateAfter linesFrom answersTo program
+returns c = refl
 
 pub lines-printed-spec : {M : Type 1} → statement M
 lines-printed-spec = tie.close (tie.spec returns)

@@ -11,6 +11,7 @@ returns c = record {
   sample = refl;
   clear = refl;
   report = refl;
+  below = refl;
   large = refl;
   small = refl;
   longest = refl;

@@ -3,7 +3,7 @@ use borrow.Author.Needs.{needs}
 use mathlib.Core.Path.{refl, sym}
 use native.Mathlib.Omega.{arith}
 use lib.ListN.{length}
-use Rattle.checkweigher.proofs.Bytes.{ends-last}
+use Rattle.checkweigher.proofs.Goes.{stops-last}
 use Rattle.checkweigher.proofs.block.next.Statement.{statement}
 use Rattle.checkweigher.proofs.block.next.Tie as tie
 
@@ -13,8 +13,7 @@ returns c = search needs
 returns-2 : tie.Need-returns-2
 returns-2 c =
     let a = c .before .before .before .before .args in
-    let n = length (a .input .now) in
-    (refl, λ h. absurd (search needs), (omega arith, sym (ends-last (a .input .now) n (omega arith))))
+    (refl, λ h. absurd (search needs), (omega arith, sym (stops-last (a .input .now) (length (a .out .now)) (a .served .at))), refl)
 
 pub next-spec : {M : Type 1} → statement M
-next-spec = tie.close (tie.spec (search needs) (search needs) (search needs) returns returns-2)
+next-spec = tie.close (tie.spec (search needs) (search needs) returns returns-2)

@@ -1,11 +1,11 @@
 -- `serve_lines` meets its contract: a walk of its MIR, by hand, with a loop. In each turn the records, the tallies and the output are lent for the call of `serve` and come back at other lists, and the output is lent as shared for the call of `next`; the line is a part of the input (`Parts.antt`).
---     Turn         the loop's invariant, as what a turn begins with: a session with the end of its line of text, lists of the lengths that were passed, and that what is left to take leads to the same
+--     Turn         the loop's invariant, as what a turn begins with: a session with the end of its line of text, lists of the lengths that were passed, and what has been said so far
 --     Held         the context at the head of a turn: the slices, their tokens and the locals
 -- Of the callees only the contracts are known. The machine values of the lines are variables, so that the terms stay small.
 -- Assumes nothing.
 use mathlib.Core.Path.{_≡_, refl, sym, _∙_, ap, subst}
 use mathlib.Core.Logic.{inl, inr}
-use mathlib.Core.Bool.{true}
+use mathlib.Core.Bool.{true, false}
 use mathlib.Core.WellFounded.{WellFounded, InvImage·wf}
 use Prim.Native.Nat.{ℕ, _+_, _-_, _≤_, _<_, _^_}
 use native.Mathlib.Omega.{arith}
@@ -51,12 +51,12 @@ use denote.Triple.Walked.{says, needs, Stays, stay-none-slice, stay-slice, stay-
 use denote.Exit.{yes}
 use borrow.Table.Elements.{at-byte}
 use borrow.Table.Copies.{Halved}
-use Rattle.line.specs.State.{state}
+use Rattle.line.specs.State.{State as Memories, state}
 use Rattle.settings.specs.declared.Settings.{Settings}
 use Rattle.controller.specs.declared.Served.{Served}
 use Rattle.line.specs.declared.line.Line.{Line}
-use Rattle.controller.specs.Input.{Progress, holding, tookAll}
-use Rattle.checkweigher.specs.Sessions.{Ends, Follows}
+use Rattle.controller.specs.Answer.{noRoom}
+use Rattle.checkweigher.specs.Sessions.{Ends, Follows, AnsweredUpTo}
 use Rattle.checkweigher.specs.declared.block.Session.{Session}
 use Rattle.settings.proofs.Settings as T
 use Rattle.line.proofs.line.Line.Laws as L′
@@ -73,7 +73,7 @@ use Rattle.checkweigher.proofs.block.next.Met as next-thm
 use Rattle.walks.proofs.Lending.{ref, recell, settles-at, by-cases, tyOf, use4, use8, lend-mut, back-mut, lend-shr, back-shr}
 use Rattle.walks.proofs.Parts.{PartOwn, part-of}
 use Rattle.walks.proofs.Leaving.{locals-at, leaves}
-use Rattle.checkweigher.proofs.Bytes.{Answers, session-order, session-within, session-goes, session-last}
+use Rattle.checkweigher.proofs.Goes.{Answers, Said, session-order, session-within, session-goes, session-last, said-first}
 use Rattle.checkweigher.proofs.Sessions.{sessionVal, Whole, session-is, whole-of}
 use Rattle.checkweigher.proofs.Lines.{Serve, to-serve, asks-serve, ended-serve, Next, to-next, asks-next, ended-next}
 use Rattle.checkweigher.proofs.block.serve_lines.Key.{name as #f}
@@ -116,15 +116,15 @@ abbrev size-line : ℕ
 size-line = 384
 
 -- what a turn begins with
-pub record Turn (inp : List ℕ) (n n₁ n₃ : ℕ) (p : Progress) : Type 0 where
+pub record Turn (inp : List ℕ) (n n₁ n₃ : ℕ) (from : Memories) (bytes : List ℕ) : Type 0 where
   pub at : Session
   pub ys : List Settings
   pub ts : List ℤ
   pub us : List ℕ
   pub lv : Val
   pub whole : Whole at lv
-  pub ends : Ends inp at
-  pub goal : tookAll (holding (state (at .line) ys ts) []) (drop-list (at .start) inp) ≡ p
+  pub ends : Ends inp n₃ at
+  pub said : Said from bytes inp (at .line) ys ts us (at .start) (at .at)
   pub as-many : length ys ≡ n
   pub as-many₁ : length ts ≡ n₁
   pub as-many₃ : length us ≡ n₃
@@ -153,12 +153,15 @@ module _ {M : Type 1} (𝓤 : URA M) (H : Heap 𝓤) (A : Atoms 𝓤) (W : Given
   abbrev at : Vals f.signature (κ, (κ₁, (κ₂, (κ₃, tt))))
   at = (sessionVal lv session ∷ [], (s ∷ [], (s₁ ∷ [], (s₂ ∷ [], (s₃ ∷ [], tt)))))
 
-  -- what taking all the lines gives
-  abbrev all : Progress
-  all = tookAll (holding (state (session .line) ys ts) []) (drop-list (session .start) inp)
+  -- what the lines come to
+  abbrev from-here : Memories
+  from-here = state (session .line) ys ts
+
+  abbrev to-take : List ℕ
+  to-take = drop-list (session .start) inp
 
   abbrev State : Type 0
-  State = Turn inp (length ys) (length ts) (length us) all
+  State = Turn inp (length ys) (length ts) (length us) from-here to-take
 
   abbrev Own : List Settings → Fml
   Own l = MutSlice (named 0) κ R .own (ref b o γ l) (s ∷ [])
@@ -189,10 +192,19 @@ module _ {M : Type 1} (𝓤 : URA M) (H : Heap 𝓤) (A : Atoms 𝓤) (W : Given
   Nearer-wf = InvImage·wf (λ (t : State). length inp - t .at .end) (Nat·lt-wfRel .wf)
 
   -- ---- the exit
+  answered : (t : State) → length inp ≤ t .at .end → AnsweredUpTo from-here to-take inp (t .us) (state (t .at .line) (t .ys) (t .ts)) (t .at .start) (t .at .at)
+  answered t h =
+      record {
+        place = t .ends .0;
+        fits = t .said .fits;
+        says = t .said .says;
+        all = λ g. session-last inp (length us) (t .at) (t .ends) h (subst (λ (n : ℕ). noRoom n (t .at .at) ≡ false) (t .as-many₃) g);
+      }
+
   exits : (t : State) → length inp ≤ t .at .end → ent 𝓤 (⋆ 𝓤 H A (‵ (Own (t .ys)) ∷ ‵ (flft κ q) ∷ ‵ (Own₁ (t .ts)) ∷ ‵ (flft κ₁ q₁) ∷ ‵ Input ∷ ‵ (flft κ₂ q₂) ∷ ‵ (Own₃ (t .us)) ∷ ‵ (flft κ₃ q₃) ∷ [])) (Post (sessionVal (t .lv) (t .at)))
   exits t h =
       qed W (‵ (Own (t .ys)) ∷ ‵ (flft κ q) ∷ ‵ (Own₁ (t .ts)) ∷ ‵ (flft κ₁ q₁) ∷ ‵ Input ∷ ‵ (flft κ₂ q₂) ∷ ‵ (Own₃ (t .us)) ∷ ‵ (flft κ₃ q₃) ∷ []) ∵
-      suffices ! _ (ends-at 𝓤 H A f.ended stayed (f.clauses 𝓤 H A mem run) W (((κ, (κ₁, (κ₂, (κ₃, tt)))), (q, (q₁, (q₂, (q₃, tt)))), tt, a, at), tt) (sessionVal (t .lv) (t .at)) (t .at) (tt, (t .ys, (t .ts, (tt, (t .us, tt))))) (tt, (t .as-many, (t .as-many₁, (tt, (t .as-many₃, tt)))))) $ says ! (t .ends .0, sym (session-last inp (t .at) (t .ends) h (t .ys) (t .ts)) ∙ t .goal) $
+      suffices ! _ (ends-at 𝓤 H A f.ended stayed (f.clauses 𝓤 H A mem run) W (((κ, (κ₁, (κ₂, (κ₃, tt)))), (q, (q₁, (q₂, (q₃, tt)))), tt, a, at), tt) (sessionVal (t .lv) (t .at)) (t .at) (tt, (t .ys, (t .ts, (tt, (t .us, tt))))) (tt, (t .as-many, (t .as-many₁, (tt, (t .as-many₃, tt)))))) $ says ! (answered t h) $
       nothing ! $ move ! (8 ∷ 0 ∷ []) $ join ! $ move ! (6 ∷ 0 ∷ []) $ join ! $ move ! (4 ∷ 0 ∷ []) $ join ! $ move ! (2 ∷ 0 ∷ []) $ join ! $ frame ! $
       -- [the records; the tallies; the input; the output]
       nothing ! $ move ! (4 ∷ 0 ∷ []) $ fjoin ! $ move ! (3 ∷ 0 ∷ []) $ fjoin ! $ move ! (2 ∷ 0 ∷ []) $ fjoin ! $ move ! (1 ∷ 0 ∷ []) $ fjoin ! $
@@ -205,12 +217,12 @@ module _ {M : Type 1} (𝓤 : URA M) (H : Heap 𝓤) (A : Atoms 𝓤) (W : Given
     Held t = ‵ (Own (t .ys)) ∷ ‵ (flft κ q) ∷ ‵ (Own₁ (t .ts)) ∷ ‵ (flft κ₁ q₁) ∷ ‵ Input ∷ ‵ (flft κ₂ q₂) ∷ ‵ (Own₃ (t .us)) ∷ ‵ (flft κ₃ q₃) ∷
         ‵ (froom (τ 20) l₂₀ 0) ∷ ‵ (fdies (τ 20) l₂₀) ∷ ‵ (froom (τ 19) l₁₉ 0) ∷ ‵ (fdies (τ 19) l₁₉) ∷ ‵ (froom (τ 18) l₁₈ 0) ∷ ‵ (fdies (τ 18) l₁₈) ∷ ‵ (froom (τ 17) l₁₇ 0) ∷ ‵ (fdies (τ 17) l₁₇) ∷ ‵ (froom (τ 16) l₁₆ 0) ∷ ‵ (fdies (τ 16) l₁₆) ∷ ‵ (froom (τ 15) l₁₅ 0) ∷ ‵ (fdies (τ 15) l₁₅) ∷ ‵ (froom (τ 14) l₁₄ 0) ∷ ‵ (fdies (τ 14) l₁₄) ∷ ‵ (froom (τ 13) l₁₃ 0) ∷ ‵ (fdies (τ 13) l₁₃) ∷ ‵ (froom (τ 12) l₁₂ 0) ∷ ‵ (fdies (τ 12) l₁₂) ∷ ‵ (froom (τ 11) l₁₁ 0) ∷ ‵ (fdies (τ 11) l₁₁) ∷ ‵ (froom (τ 10) l₁₀ 0) ∷ ‵ (fdies (τ 10) l₁₀) ∷ ‵ (froom (τ 9) l₉ 0) ∷ ‵ (fdies (τ 9) l₉) ∷ ‵ (froom (τ 8) l₈ 0) ∷ ‵ (fdies (τ 8) l₈) ∷ ‵ (froom (τ 7) l₇ 0) ∷ ‵ (fdies (τ 7) l₇) ∷ ‵ (fat fullShare (τ 6) l₆ 0 (sessionVal (t .lv) (t .at))) ∷ ‵ (fdies (τ 6) l₆) ∷ ‵ (fat fullShare (τ 5) l₅ 0 (s₃)) ∷ ‵ (fdies (τ 5) l₅) ∷ ‵ (fat fullShare (τ 4) l₄ 0 (s₂)) ∷ ‵ (fdies (τ 4) l₄) ∷ ‵ (fat fullShare (τ 3) l₃ 0 (s₁)) ∷ ‵ (fdies (τ 3) l₃) ∷ ‵ (fat fullShare (τ 2) l₂ 0 (s)) ∷ ‵ (fdies (τ 2) l₂) ∷ ‵ (fat fullShare (τ 1) l₁ 0 (sessionVal lv session)) ∷ ‵ (fdies (τ 1) l₁) ∷ ‵ (froom (τ 0) l₀ 0) ∷ ‵ (fdies (τ 0) l₀) ∷ []
 
-  module _ (𝓣 : Tables 𝓤 H) (known-serve : Triple 𝓤 (𝓣 .C #serve) (Serve 𝓤 H A mem run)) (known-next : Triple 𝓤 (𝓣 .C #next) (Next 𝓤 H A mem run)) (ends : Ends inp session) where
+  module _ (𝓣 : Tables 𝓤 H) (known-serve : Triple 𝓤 (𝓣 .C #serve) (Serve 𝓤 H A mem run)) (known-next : Triple 𝓤 (𝓣 .C #next) (Next 𝓤 H A mem run)) (ends : (Ends inp (length us) session) × (session .at ≡ 0)) where
     abbrev fm : FmC 𝓤 H (W .laws) (𝓣 .C)
     fm = fmOf 𝓤 H (W .laws) 𝓣
 
     abbrev begins : State
-    begins = record { at = session; ys = ys; ts = ts; us = us; lv = lv; whole = session-whole; ends = ends; goal = refl; as-many = refl; as-many₁ = refl; as-many₃ = refl }
+    begins = record { at = session; ys = ys; ts = ts; us = us; lv = lv; whole = session-whole; ends = ends .0; said = said-first (session .line) ys ts us inp session (ends .1); as-many = refl; as-many₁ = refl; as-many₃ = refl }
 
     walk : ent 𝓤 (onEntry 𝓤 H A f.signature (κ, (κ₁, (κ₂, (κ₃, tt)))) (q, (q₁, (q₂, (q₃, tt)))) a at) (WpFn 𝓤 H (𝓣 .C) (𝓣 .Λ) code.function (sessionVal lv session ∷ s ∷ s₁ ∷ s₂ ∷ s₃ ∷ []) Post)
     unfolding afterTurn
@@ -236,7 +248,7 @@ module _ {M : Type 1} (𝓤 : URA M) (H : Heap 𝓤) (A : Atoms 𝓤) (W : Given
               assigns ! (addr ! (from ! (fld ! refl (hop ! (look-in ! 42 (sub ! 0 refl (whole !))) (stop !))))) (from ! (stop !)) (init ! 24 refl (tt, tt)) $
               assigns ! (agg ! (and-then ! (load ! (from ! (stop !)) (look ! 24 refl)) (and-then ! (load ! (from ! (fld ! refl (stop !))) (look-in ! 42 (sub ! 1 refl (whole !)))) (no-more !)))) (from ! (stop !)) (init ! 22 refl (tt, (tt, (record { fits = room₁ .0 }, tt)))) $
               assigns ! (bin ! (load ! (from ! (fld ! refl (stop !))) (look-in ! 40 (sub ! 0 refl (whole !)))) (load ! (from ! (fld ! {τ = (tyInt w64)} {d = size-line} refl (stop !))) (look-in ! 36 (sub ! 1 {τ = (tyInt w64)} {d = size-line} refl (whole !)))) tt) (from ! (stop !)) (init ! 20 refl (tt, tt)) $
-              assigns ! (bin ! (load ! (from ! (fld ! {τ = (tyInt w64)} {d = size-line + 8} refl (stop !))) (look-in ! 36 (sub ! 2 {τ = (tyInt w64)} {d = size-line + 8} refl (whole !)))) (load ! (from ! (fld ! {τ = (tyInt w64)} {d = size-line} refl (stop !))) (look-in ! 36 (sub ! 1 {τ = (tyInt w64)} {d = size-line} refl (whole !)))) (session-order inp (t .at) (t .ends))) (from ! (stop !)) (store ! 32 refl (tt, record { fits = less-fits (t .at .start) (t .at .end) (t .whole .end-fits) })) $
+              assigns ! (bin ! (load ! (from ! (fld ! {τ = (tyInt w64)} {d = size-line + 8} refl (stop !))) (look-in ! 36 (sub ! 2 {τ = (tyInt w64)} {d = size-line + 8} refl (whole !)))) (load ! (from ! (fld ! {τ = (tyInt w64)} {d = size-line} refl (stop !))) (look-in ! 36 (sub ! 1 {τ = (tyInt w64)} {d = size-line} refl (whole !)))) (session-order inp (length us) (t .at) (t .ends))) (from ! (stop !)) (store ! 32 refl (tt, record { fits = less-fits (t .at .start) (t .at .end) (t .whole .end-fits) })) $
               assigns ! (addr ! (from ! (hop ! (look ! 20 refl) (stop !)))) (from ! (stop !)) (init ! 18 refl (tt, tt)) $
               assigns ! (agg ! (and-then ! (load ! (from ! (stop !)) (look ! 18 refl)) (and-then ! (load ! (from ! (stop !)) (look ! 32 refl)) (no-more !)))) (from ! (stop !)) (init ! 16 refl (tt, (tt, (record { fits = less-fits (t .at .start) (t .at .end) (t .whole .end-fits) }, tt)))) $
               assigns ! (addr ! (from ! (fld ! refl (hop ! (look-in ! 38 (sub ! 0 refl (whole !))) (stop !))))) (from ! (stop !)) (init ! 14 refl (tt, tt)) $
@@ -245,12 +257,12 @@ module _ {M : Type 1} (𝓤 : URA M) (H : Heap 𝓤) (A : Atoms 𝓤) (W : Given
               lend-mut ! tt R (named 0) (named 0) κ q γ b o (length ys) (t .ys) (λ ν δ. move ! (3 ∷ 4 ∷ []) $ lend-mut ! tt i64 (named 1) (named 1) κ₁ q₁ γ₁ b₁ o₁ (length ts) (t .ts) (λ ν₁ δ₁. move ! (8 ∷ 9 ∷ []) $
               lend-mut ! tt u8 (named 3) (named 3) κ₃ q₃ γ₃ b₃ o₃ (length us) (t .us) (λ ν₃ δ₃. move ! (9 ∷ []) $
               use1 W (‵ Input ⊛ ‵ Input) (shr-slice-copy 𝓤 H A W (named 2) κ₂ u8 .twice (ref b₂ o₂ γ₂ inp) (s₂ ∷ [])) $ split ! $ move ! (0 ∷ 11 ∷ []) $
-              use2 W (later (some (λ (δ₂ : GName). ‵ (PartOwn 𝓤 H A W u8 halved-u8 (named 2) (named 2) κ₂ q₂ b₂ o₂ (length inp) γ₂ inp (t .at .start) (t .at .end - t .at .start) (t .at .start + o₂) δ₂) ⊛ ‵ (flft κ₂ q₂)))) (part-of 𝓤 H A W u8 halved-u8 (named 2) (named 2) κ₂ q₂ b₂ o₂ (length inp) γ₂ inp (t .at .start) (t .at .end - t .at .start) (t .at .start + o₂) (at-byte o₂ (t .at .start)) (part-within (t .at .start) (t .at .end) (length inp) (session-order inp (t .at) (t .ends)) (session-within inp (t .at) (t .ends)))) $ await ! tt $ pick ! (λ δ₂. split ! $
+              use2 W (later (some (λ (δ₂ : GName). ‵ (PartOwn 𝓤 H A W u8 halved-u8 (named 2) (named 2) κ₂ q₂ b₂ o₂ (length inp) γ₂ inp (t .at .start) (t .at .end - t .at .start) (t .at .start + o₂) δ₂) ⊛ ‵ (flft κ₂ q₂)))) (part-of 𝓤 H A W u8 halved-u8 (named 2) (named 2) κ₂ q₂ b₂ o₂ (length inp) γ₂ inp (t .at .start) (t .at .end - t .at .start) (t .at .start + o₂) (at-byte o₂ (t .at .start)) (part-within (t .at .start) (t .at .end) (length inp) (session-order inp (length us) (t .at) (t .ends)) (session-within inp (length us) (t .at) (t .ends)))) $ await ! tt $ pick ! (λ δ₂. split ! $
               -- [the line; κ₂'s token; the input; the output lent; ν₃'s token; what is kept; the tallies lent; ν₁'s; kept; the records lent; ν's; kept; _20; …]
               move ! (9 ∷ 10 ∷ 6 ∷ 7 ∷ 0 ∷ 1 ∷ 3 ∷ 4 ∷ []) $ use8 W (raw (Serve 𝓤 H A mem run .pre (to-serve 𝓤 H A mem run W (ν ∷ []) (ν₁ ∷ []) κ₂ (ν₃ ∷ []) fullShare fullShare q₂ fullShare (t .at .line) (t .lv) b o (length ys) δ (t .ys) b₁ o₁ (length ts) δ₁ (t .ts) b₂ (t .at .start + o₂) (t .at .end - t .at .start) δ₂ (take (t .at .end - t .at .start) (drop-list (t .at .start) inp)) b₃ o₃ (length us) δ₃ (t .us) (t .at .at) (t .whole .line-is) (t .whole .at-fits)))) (asks-serve 𝓤 H A mem run W (ν ∷ []) (ν₁ ∷ []) κ₂ (ν₃ ∷ []) fullShare fullShare q₂ fullShare (t .at .line) (t .lv) b o (length ys) δ (t .ys) b₁ o₁ (length ts) δ₁ (t .ts) b₂ (t .at .start + o₂) (t .at .end - t .at .start) δ₂ (take (t .at .end - t .at .start) (drop-list (t .at .start) inp)) b₃ o₃ (length us) δ₃ (t .us) (t .at .at) (t .whole .line-is) (t .whole .at-fits)) $
               -- [what `serve` asks; the input; kept of the output, of the tallies, of the records; _20; …]
               calls-at ! fm (Serve 𝓤 H A mem run) known-serve (to-serve 𝓤 H A mem run W (ν ∷ []) (ν₁ ∷ []) κ₂ (ν₃ ∷ []) fullShare fullShare q₂ fullShare (t .at .line) (t .lv) b o (length ys) δ (t .ys) b₁ o₁ (length ts) δ₁ (t .ts) b₂ (t .at .start + o₂) (t .at .end - t .at .start) δ₂ (take (t .at .end - t .at .start) (drop-list (t .at .start) inp)) b₃ o₃ (length us) δ₃ (t .us) (t .at .at) (t .whole .line-is) (t .whole .at-fits)) (and-then ! (load ! (from ! (fld ! {τ = L′.mir} {d = 0} refl (stop !))) (look-in ! 33 (sub ! 0 {τ = L′.mir} {d = 0} refl (whole !)))) (and-then ! (load ! (from ! (stop !)) (look ! 23 refl)) (and-then ! (load ! (from ! (stop !)) (look ! 19 refl)) (and-then ! (load ! (from ! (stop !)) (look ! 13 refl)) (and-then ! (load ! (from ! (stop !)) (look ! 9 refl)) (and-then ! (load ! (from ! (fld ! {τ = (tyInt w64)} {d = size-line + 16} refl (stop !))) (look-in ! 33 (sub ! 3 {τ = (tyInt w64)} {d = size-line + 16} refl (whole !)))) (no-more !))))))) (λ w.
-              use1 W (later (some (λ (made : Served). some (λ (zs : List Settings). some (λ (vs : List ℤ). some (λ (os : List ℕ). given (Is O.the-row made (w ∷ [])) (given (Answers (t .at .line) (t .ys) (t .ts) (take (t .at .end - t .at .start) (drop-list (t .at .start) inp)) (made .line) zs vs) (given (length zs ≡ length (t .ys)) (given (length vs ≡ length (t .ts)) (given (length os ≡ length (t .us))
+              use1 W (later (some (λ (made : Served). some (λ (zs : List Settings). some (λ (vs : List ℤ). some (λ (os : List ℕ). given (Is O.the-row made (w ∷ [])) (given (Answers (t .at .line) (t .ys) (t .ts) (take (t .at .end - t .at .start) (drop-list (t .at .start) inp)) (t .us) (t .at .at) made zs vs os) (given (length zs ≡ length (t .ys)) (given (length vs ≡ length (t .ts)) (given (length os ≡ length (t .us))
               (‵ (finally R δ zs) ⊛ (‵ (flft (ν ∷ []) fullShare) ⊛ (‵ (finally i64 δ₁ vs) ⊛ (‵ (flft (ν₁ ∷ []) fullShare) ⊛ (‵ (flft κ₂ q₂) ⊛ (‵ (finally u8 δ₃ os) ⊛ ‵ (flft (ν₃ ∷ []) fullShare)))))))))))))))))
               (ended-serve 𝓤 H A mem run W (ν ∷ []) (ν₁ ∷ []) κ₂ (ν₃ ∷ []) fullShare fullShare q₂ fullShare (t .at .line) (t .lv) b o (length ys) δ (t .ys) b₁ o₁ (length ts) δ₁ (t .ts) b₂ (t .at .start + o₂) (t .at .end - t .at .start) δ₂ (take (t .at .end - t .at .start) (drop-list (t .at .start) inp)) b₃ o₃ (length us) δ₃ (t .us) (t .at .at) (t .whole .line-is) (t .whole .at-fits) w) $ await ! tt $ pick ! (λ made. pick ! (λ zs. pick ! (λ vs. pick ! (λ os. learn ! (λ made-is. learn ! (λ answers. learn ! (λ same. learn ! (λ same₁. learn ! (λ same₃.
               split ! $ move ! (1 ∷ []) $ split ! $ move ! (1 ∷ []) $ split ! $ move ! (1 ∷ []) $ split ! $ move ! (1 ∷ []) $ split ! $ move ! (1 ∷ []) $ split ! $
@@ -267,14 +279,14 @@ module _ {M : Type 1} (𝓤 : URA M) (H : Heap 𝓤) (A : Atoms 𝓤) (W : Given
               use4 W (raw (Next 𝓤 H A mem run .pre (to-next 𝓤 H A mem run W κ₂ (ν ∷ []) q₂ fullShare made w b₂ o₂ (length inp) γ₂ inp (t .at .end) b₃ o₃ (length us) δ os made-is (t .whole .end-fits)))) (asks-next 𝓤 H A mem run W κ₂ (ν ∷ []) q₂ fullShare made w b₂ o₂ (length inp) γ₂ inp (t .at .end) b₃ o₃ (length us) δ os made-is (t .whole .end-fits)) $
               -- [what `next` asks; the input; kept of the output; the records; κ's token; the tallies; κ₁'s; _20; …]
               calls-at-last ! fm (Next 𝓤 H A mem run) known-next (to-next 𝓤 H A mem run W κ₂ (ν ∷ []) q₂ fullShare made w b₂ o₂ (length inp) γ₂ inp (t .at .end) b₃ o₃ (length us) δ os made-is (t .whole .end-fits)) (and-then ! (load ! (from ! (stop !)) (look ! 33 refl)) (and-then ! (load ! (from ! (stop !)) (look ! 39 refl)) (and-then ! (load ! (from ! (fld ! {τ = (tyInt w64)} {d = size-line + 8} refl (stop !))) (look-in ! 35 (sub ! 2 {τ = (tyInt w64)} {d = size-line + 8} refl (whole !)))) (and-then ! (load ! (from ! (stop !)) (look ! 7 refl)) (no-more !))))) (λ w₁.
-              use1 W (later (some (λ (r : Session). some (λ (lv′ : Val). given (w₁ ≡ sessionVal lv′ r) (given (Whole r lv′) (given (Follows (made .line) inp (t .at .end) r)
+              use1 W (later (some (λ (r : Session). some (λ (lv′ : Val). given (w₁ ≡ sessionVal lv′ r) (given (Whole r lv′) (given (Follows (made .line) (made .at) inp (t .at .end) (length os) r)
               (‵ (flft κ₂ q₂) ⊛ ‵ (flft (ν ∷ []) fullShare)))))))) (ended-next 𝓤 H A mem run W κ₂ (ν ∷ []) q₂ fullShare made w b₂ o₂ (length inp) γ₂ inp (t .at .end) b₃ o₃ (length us) δ os made-is (t .whole .end-fits) w₁) $ await ! tt $ pick ! (λ r. pick ! (λ lv′. learn ! (λ e₁. learn ! (λ r-whole. learn ! (λ follows. split ! $
               -- [κ₂'s token; ν's; the input; kept of the output; the records; κ's; the tallies; κ₁'s; _20; …]
               move ! (1 ∷ 3 ∷ []) $ back-shr ! tt u8 (named 3) (named 1) κ₃ q₃ γ₃ b₃ o₃ (length us) os ν room₃ (same₃ ∙ t .as-many₃) $ move ! (4 ∷ 5 ∷ 6 ∷ 7 ∷ 3 ∷ 2 ∷ 0 ∷ 1 ∷ []) $
               settles-at ! e₁ $ land-last ! (from ! (stop !)) (store ! 36 refl (session-typed 𝓤 H A W r lv′ r-whole)) $
               forget ! 8 refl $ forget ! 10 refl $ forget ! 12 refl $ forget ! 14 refl $ forget ! 16 refl $ forget ! 18 refl $ forget ! 20 refl $ forget ! 22 refl $ forget ! 24 refl $ forget ! 26 refl $ forget ! 28 refl $ forget ! 30 refl $ forget ! 32 refl $ forget ! 34 refl $
-              again ! Nearer (Held l₀ l₁ l₂ l₃ l₄ l₅ l₆ l₇ l₈ l₉ l₁₀ l₁₁ l₁₂ l₁₃ l₁₄ l₁₅ l₁₆ l₁₇ l₁₈ l₁₉ l₂₀) t (record { at = r; ys = zs; ts = vs; us = os; lv = lv′; whole = r-whole; ends = follows .2; goal = turned t y r zs vs (made .line) answers follows; as-many = same ∙ t .as-many; as-many₁ = same₁ ∙ t .as-many₁; as-many₃ = same₃ ∙ t .as-many₃ })
-              (nearer (length inp) (t .at .end) (r .start) (r .end) (less t y) (follows .1 (less t y)) (session-order inp r (follows .2))))))))))))))))))))))))
+              again ! Nearer (Held l₀ l₁ l₂ l₃ l₄ l₅ l₆ l₇ l₈ l₉ l₁₀ l₁₁ l₁₂ l₁₃ l₁₄ l₁₅ l₁₆ l₁₇ l₁₈ l₁₉ l₂₀) t (record { at = r; ys = zs; ts = vs; us = os; lv = lv′; whole = r-whole; ends = room-r os (made .line) (made .at) (t .at .end) r t same₃ follows .2; said = turned t y r zs vs os made answers (room-r os (made .line) (made .at) (t .at .end) r t same₃ follows); as-many = same ∙ t .as-many; as-many₁ = same₁ ∙ t .as-many₁; as-many₃ = same₃ ∙ t .as-many₃ })
+              (nearer (length inp) (t .at .end) (r .start) (r .end) (less t y) (follows .1 (less t y)) (session-order inp (length us) r (room-r os (made .line) (made .at) (t .at .end) r t same₃ follows .2))))))))))))))))))))))))
           | inr y ↦
               -- there is no more line
               recell ! 30 (ap vbool y) refl $ leaves-loop ! (load ! (from ! (stop !)) (look ! 30 refl)) $ exec ! (𝓣 .C) (𝓣 .Λ) (locals-at 𝓤 H Mir.locals (l₀ ∷ l₁ ∷ l₂ ∷ l₃ ∷ l₄ ∷ l₅ ∷ l₆ ∷ l₇ ∷ l₈ ∷ l₉ ∷ l₁₀ ∷ l₁₁ ∷ l₁₂ ∷ l₁₃ ∷ l₁₄ ∷ l₁₅ ∷ l₁₆ ∷ l₁₇ ∷ l₁₈ ∷ l₁₉ ∷ l₂₀ ∷ [])) Mir.t-3 (atRet (locals-at 𝓤 H Mir.locals (l₀ ∷ l₁ ∷ l₂ ∷ l₃ ∷ l₄ ∷ l₅ ∷ l₆ ∷ l₇ ∷ l₈ ∷ l₉ ∷ l₁₀ ∷ l₁₁ ∷ l₁₂ ∷ l₁₃ ∷ l₁₄ ∷ l₁₅ ∷ l₁₆ ∷ l₁₇ ∷ l₁₈ ∷ l₁₉ ∷ l₂₀ ∷ [])) Post) $
@@ -288,17 +300,21 @@ module _ {M : Type 1} (𝓤 : URA M) (H : Heap 𝓤) (A : Atoms 𝓤) (W : Given
         less : (t : State) → ltb (t .at .end) (length inp) ≡ true → t .at .end < length inp
         less t y = ltb→lt (t .at .end) (length inp) (subst Holds (sym y) tt)
 
-        turned : (t : State) → ltb (t .at .end) (length inp) ≡ true → (r : Session) (zs : List Settings) (vs : List ℤ) (k : Line)
-            → Answers (t .at .line) (t .ys) (t .ts) (take (t .at .end - t .at .start) (drop-list (t .at .start) inp)) k zs vs → Follows k inp (t .at .end) r
-            → tookAll (holding (state (r .line) zs vs) []) (drop-list (r .start) inp) ≡ all
-        turned t y r zs vs k a f = session-goes inp (t .at) (t .ends) (less t y) (t .ys) (t .ts) r zs vs (f .0 ∙ a .0, a .1, a .2) (f .1 (less t y)) ∙ t .goal
+        -- the output keeps its length
+        room-r : (os : List ℕ) (k : Line) (e lf : ℕ) (r : Session) (t : State) → length os ≡ length (t .us) → Follows k e inp lf (length os) r → Follows k e inp lf (length us) r
+        room-r os k e lf r t m f = subst (λ (n : ℕ). Follows k e inp lf n r) (m ∙ t .as-many₃) f
+
+        turned : (t : State) → ltb (t .at .end) (length inp) ≡ true → (r : Session) (zs : List Settings) (vs : List ℤ) (os : List ℕ) (made : Served)
+            → Answers (t .at .line) (t .ys) (t .ts) (take (t .at .end - t .at .start) (drop-list (t .at .start) inp)) (t .us) (t .at .at) made zs vs os → Follows (made .line) (made .at) inp (t .at .end) (length us) r
+            → Said from-here to-take inp (r .line) zs vs os (r .start) (r .at)
+        turned t y r zs vs os made a f = session-goes inp (length us) (t .at) (t .ends) (less t y) (t .ys) (t .ts) from-here to-take (t .us) (t .as-many₃) (t .said) made zs vs os a r f
 
 module _ {M : Type 1} (𝓤 : URA M) (H : Heap 𝓤) (A : Atoms 𝓤) (W : Given 𝓤 H A) (mem : Memory → SProp 𝓤) (run : Routine → Fun 𝓤) where
   walks : (𝓣 : Tables 𝓤 H) → Triple 𝓤 (𝓣 .C #serve) (Serve 𝓤 H A mem run) → Triple 𝓤 (𝓣 .C #next) (Next 𝓤 H A mem run) → Walks 𝓤 H A f.ended stayed (WpFn 𝓤 H (𝓣 .C) (𝓣 .Λ) code.function) (f.clauses 𝓤 H A mem run)
   walks 𝓣 k₁ k₂ = walked 𝓤 H A f.ended stayed (f.clauses 𝓤 H A mem run) (WpFn 𝓤 H (𝓣 .C) (𝓣 .Λ) code.function)
       (λ κs. ((λ d. S′.lowered d ∷ []), (slice-vals, (slice-vals, (slice-vals, (slice-vals, tt))))))
       (λ κs. (S′.lowers .val-is, (mut-slice-tells (named 0) (κs .0) R, (mut-slice-tells (named 1) (κs .1 .0) i64, (shr-slice-tells (named 2) (κs .1 .1 .0) u8, (mut-slice-tells (named 3) (κs .1 .1 .1 .0) u8, tt))))))
-      (λ κs qs bounds a g are. needs 𝓤 (Ends (a .1 .1 .1 .0 .now) (a .0)) _
+      (λ κs qs bounds a g are. needs 𝓤 ((Ends (a .1 .1 .1 .0 .now) (length (a .1 .1 .1 .1 .0 .now)) (a .0)) × (a .0 .at ≡ 0)) _
       (λ h. walk 𝓤 H A W mem run (κs .0) (κs .1 .0) (κs .1 .1 .0) (κs .1 .1 .1 .0) (qs .0) (qs .1 .0) (qs .1 .1 .0) (qs .1 .1 .1 .0)
       (a .0) (L′.lowered (a .0 .line)) (a .1 .0 .ptr .0) (a .1 .0 .ptr .1) (a .1 .0 .name) (a .1 .0 .now) (a .1 .1 .0 .ptr .0) (a .1 .1 .0 .ptr .1) (a .1 .1 .0 .name) (a .1 .1 .0 .now)
       (a .1 .1 .1 .0 .ptr .0) (a .1 .1 .1 .0 .ptr .1) (a .1 .1 .1 .0 .name) (a .1 .1 .1 .0 .now) (a .1 .1 .1 .1 .0 .ptr .0) (a .1 .1 .1 .1 .0 .ptr .1) (a .1 .1 .1 .1 .0 .name) (a .1 .1 .1 .1 .0 .now)
