@@ -1,8 +1,9 @@
 // The twelve events on the line, and the one way to apply them.
 ghost use mathlib.Core.Path.{_≡_};
-ghost use mathlib.Core.Bool.{true};
+ghost use mathlib.Core.Bool.{true, false};
 ghost use mathlib.Core.List.{[]};
 ghost use Rattle.settings.specs.Settings.{recordFit};
+ghost use Rattle.event.specs.Kind.{isSample};
 ghost use Rattle.event.specs.Sample.{sampleRanged};
 ghost use Rattle.event.specs.Reply.{noError};
 ghost use Rattle.line.specs.Line.{withStatus, withSetup};
@@ -130,13 +131,14 @@ impl Line {
 }
 
 impl Line {
-    fn accepted(self, count: u64, active: Settings, tallies: &mut [i64], e: Event) -> Step
-        requires { ⌜ refusalOf self count active (now tallies) e ≡ 0 ⌝ }
+    // Any event but a sample.
+    fn commanded(self, active: Settings, tallies: &mut [i64], e: Event) -> Step
+        requires { ⌜ isSample e ≡ false ⌝ }
         ensures answer { λ r. ⌜ r ≡ stepIn (accepted self active (now (tallies .entry)) e) ⌝ }
         ensures memory { λ r. ⌜ now (tallies .exit) ≡ accepted self active (now (tallies .entry)) e .tallies ⌝ }
     {
         match e {
-            Event::Sample(s) => self.sample(active, tallies, s),
+            Event::Sample(_) => self.no_operation(),
             Event::Run => self.run(),
             Event::Stop => self.stop(),
             Event::Emergency => self.emergency(),
@@ -149,6 +151,18 @@ impl Line {
             Event::Setup(s) => self.set_up(s),
             Event::Store(c, s) => self.store(c, s),
         }
+    }
+
+    // A sample comes first: its path is then compiled without the others.
+    fn accepted(self, count: u64, active: Settings, tallies: &mut [i64], e: Event) -> Step
+        requires { ⌜ refusalOf self count active (now tallies) e ≡ 0 ⌝ }
+        ensures answer { λ r. ⌜ r ≡ stepIn (accepted self active (now (tallies .entry)) e) ⌝ }
+        ensures memory { λ r. ⌜ now (tallies .exit) ≡ accepted self active (now (tallies .entry)) e .tallies ⌝ }
+    {
+        if let Event::Sample(s) = e {
+            return self.sample(active, tallies, s);
+        }
+        self.commanded(active, tallies, e)
     }
 
     // The flat core: an event on the line and its tallies, where `count` settings records are lent and `active` is the active

@@ -38,14 +38,27 @@ impl Line {
         mask::lowest_off(self.setup.need, self.last.safety)
     }
 
-    // 0 if the event is accepted.
+    // 0 if the event is accepted. Of a sample only two conditions can hold, and most events are samples.
     pub(crate) fn refusal(self, count: u64, active: Settings, tallies: &[i64], e: Event) -> u64
         ensures { λ r. ⌜ r ≡ refusalOf self count active (now (tallies .entry)) e ⌝ }
     {
+        let sound = self.memory_sound(count, active, tallies, e);
+        if let Event::Sample(s) = e {
+            let faults = Faults {
+                memory: !sound,
+                value: !s.ranged(),
+                status: false,
+                contradiction: false,
+                safety: false,
+                occupied: false,
+                nothing: false,
+            };
+            return faults.number();
+        }
         let last = self.last;
         let undo = self.undo;
         let faults = Faults {
-            memory: !self.memory_sound(count, active, tallies, e),
+            memory: !sound,
             value: !e.ranged(),
             status: status_wrong(self.status, e),
             contradiction: !e.agrees(),

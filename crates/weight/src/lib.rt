@@ -29,7 +29,8 @@ pub fn size(x: i64) -> u64
 pub fn is_weight(x: i64) -> bool
     ensures { λ r. ⌜ r ≡ isWeight x ⌝ }
 {
-    size(x) <= LARGEST
+    let most = LARGEST as i64;
+    (0 - most <= x) & (x <= most)
 }
 
 // The sum over n to the nearest, halves away from zero; none at n = 0.

@@ -1,7 +1,15 @@
--- `accepted` gives each kind of event to its method, which finds what it asks for in the tests that were passed. Assumes nothing.
+-- `accepted` gives a sample to its method, which finds what it asks for in the tests that were passed. Assumes nothing.
 use borrow.Author.Needs.{needs}
-use mathlib.Core.Path.{refl}
 use Rattle.line.proofs.Accepted.{accepted-tells, sample-given}
+use mathlib.Core.Path.{_≡_, refl}
+use mathlib.Core.Bool.{false}
+use mathlib.Core.List.{[], _∷_}
+use types.Run.{OneOf, miss}
+use denote.Enum.Declared.{tagOf}
+use Rattle.event.proofs.Event.{the-type}
+use Rattle.event.specs.Kind.{isSample}
+use Rattle.event.specs.declared.Event.{Event}
+use Rattle.event.specs.declared.Event.the-variants.{Sample, Run, Stop, Emergency, Recall, Cancel, ClearCode, ClearAll, ErrorReset, NoOperation, Setup, Store}
 use Rattle.line.specs.Step.{accepted}
 use Rattle.line.proofs.line.Line.accepted.Statement.{statement}
 use Rattle.line.proofs.line.Line.accepted.Tie as tie
@@ -16,72 +24,26 @@ returns : tie.Need-returns
 unfolding accepted
 returns c = rw (c .before .before .before .before .e .given .1) (c .before .sample .ensures)
 
+-- an event of one of the other kinds is no sample
+no-sample : (e : Event) → OneOf (1 ∷ 2 ∷ 3 ∷ 4 ∷ 5 ∷ 6 ∷ 7 ∷ 8 ∷ 9 ∷ 10 ∷ 11 ∷ []) (tagOf the-type e) → isSample e ≡ false
+no-sample (Sample s) h = absurd (miss (1 ∷ 2 ∷ 3 ∷ 4 ∷ 5 ∷ 6 ∷ 7 ∷ 8 ∷ 9 ∷ 10 ∷ 11 ∷ []) 0 tt h)
+no-sample Run h = refl
+no-sample Stop h = refl
+no-sample Emergency h = refl
+no-sample (Recall c) h = refl
+no-sample Cancel h = refl
+no-sample (ClearCode c) h = refl
+no-sample ClearAll h = refl
+no-sample ErrorReset h = refl
+no-sample NoOperation h = refl
+no-sample (Setup s) h = refl
+no-sample (Store c s) h = refl
+
+commanded-requires : tie.Need-commanded-requires
+commanded-requires c κs = no-sample (c .before .before .args .e) (c .before .match .keys2)
+
 returns-2 : tie.Need-returns-2
-unfolding accepted
-returns-2 c = rw (c .before .enum-told .given .1) (c .run .ensures, refl)
-
-returns-3 : tie.Need-returns-3
-unfolding accepted
-returns-3 c = rw (c .before .enum-told2 .given .1) (c .stop .ensures, refl)
-
-returns-4 : tie.Need-returns-4
-unfolding accepted
-returns-4 c = rw (c .before .enum-told3 .given .1) (c .emergency .ensures, refl)
-
-returns-5 : tie.Need-returns-5
-unfolding accepted
-returns-5 c = rw (c .before .before .e2 .given .1) (c .recall .ensures, refl)
-
-returns-6 : tie.Need-returns-6
-unfolding accepted
-returns-6 c = rw (c .before .before .before .enum-told4 .given .1) (c .before .cancel .ensures)
-
-returns-7 : tie.Need-returns-7
-unfolding accepted
-returns-7 c = rw (c .before .before .before .before .e3 .given .1) (c .before .clear-code .ensures)
-
-returns-8 : tie.Need-returns-8
-unfolding accepted
-returns-8 c = rw (c .before .before .before .enum-told5 .given .1) (c .before .clear-all .ensures)
-
-returns-9 : tie.Need-returns-9
-unfolding accepted
-returns-9 c = rw (c .before .enum-told6 .given .1) (c .error-reset .ensures, refl)
-
-returns-10 : tie.Need-returns-10
-unfolding accepted
-returns-10 c = rw (c .before .enum-told7 .given .1) (c .no-operation .ensures, refl)
-
-returns-11 : tie.Need-returns-11
-unfolding accepted
-returns-11 c = rw (c .before .before .e4 .given .1) (c .set-up .ensures, refl)
-
-returns-12 : tie.Need-returns-12
-unfolding accepted
-returns-12 c = rw (c .before .before .e5 .given .1) (c .store .ensures, refl)
+returns-2 c = c .before .commanded .ensures
 
 pub accepted-spec : {M : Type 1} → statement M
-accepted-spec =
-    tie.close
-    (tie.spec
-    (search needs)
-    sample-requires
-    (search needs) (search needs) (search needs) (search needs) (search needs) (search needs)
-    (search needs) (search needs) (search needs) (search needs) (search needs) (search needs)
-    (search needs) (search needs) (search needs) (search needs) (search needs) (search needs)
-    (search needs) (search needs) (search needs) (search needs) (search needs)
-    returns
-    returns-2
-    returns-3
-    returns-4
-    returns-5
-    (search needs)
-    returns-6
-    (search needs)
-    returns-7
-    (search needs)
-    returns-8
-    returns-9
-    returns-10
-    returns-11
-    returns-12)
+accepted-spec = tie.close (tie.spec (search needs) sample-requires (search needs) returns commanded-requires (search needs) returns-2)
