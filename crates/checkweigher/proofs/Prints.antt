@@ -1,8 +1,8 @@
--- What an input prints: a whole line of text, a line that has begun, and a line that is cut. Assumes nothing.
+-- What an input prints: a line of text that has begun, and one that is cut. Assumes nothing.
 use mathlib.Core.Path.{_≡_, refl, sym, ap, _∙_}
 use mathlib.Core.Bool.{true, false}
 use mathlib.Core.List.{List, [], _∷_, _++_, append-assoc, append-nil}
-use Prim.Native.Nat.{ℕ, zero, suc, _+_, _≤_, _<_}
+use Prim.Native.Nat.{ℕ, zero, suc, _≤_}
 use native.Mathlib.Omega.{arith}
 use lib.Dec.{eqb, leb}
 use lib.ListN.{length, take, drop, length-append}
@@ -22,19 +22,6 @@ use Rattle.blocks.proofs.Ends.{at-lf, before-lf, no-more}
 
 -- ---- the lines, where some bytes of a line stand before
 
--- a line up to its LF
-whole-line : (before bs more : List ℕ) → lineLength bs < length bs → linesFrom before (bs ++ more) ≡ (before ++ take (lineLength bs) bs) ∷ linesOf (drop (lineLength bs + 1) bs ++ more)
-whole-line before [] more h = absurd (omega (arith, h, no-more))
-whole-line before (b ∷ s) more h =
-    by-cases (eqb b lf)
-    (λ y. rw (at-lf b s y, append-nil before) (lines-lf before b (s ++ more) y))
-    (λ n.
-    let size : suc (lineLength s) + 1 ≡ suc (lineLength s + 1) = omega arith in
-    rw (before-lf b s n, size) (
-    lines-other before b (s ++ more) n
-    ∙ whole-line (before ++ b ∷ []) s more (omega (arith, h, before-lf b s n))
-    ∙ ap (λ (t : List ℕ). t ∷ linesOf (drop (lineLength s + 1) s ++ more)) (append-assoc before (b ∷ []) (take (lineLength s) s))))
-
 -- no LF
 no-line : (before bs more : List ℕ) → NoLf bs → linesFrom before (bs ++ more) ≡ linesFrom (before ++ bs) more
 no-line before [] more h = rw (append-nil before) refl
@@ -48,10 +35,6 @@ no-line before (b ∷ s) more h =
 
 pub prints-none : (s : State) → printed s [] ≡ []
 prints-none s = ap (answersTo s) (lines-end []) ∙ answers-none s
-
-pub prints-line : (s : State) (bs more : List ℕ) → lineLength bs < length bs
-    → printed s (bs ++ more) ≡ answerTo s (readLine (take (lineLength bs) bs)) ++ printed (stateAfter s (readLine (take (lineLength bs) bs))) (drop (lineLength bs + 1) bs ++ more)
-prints-line s bs more h = ap (answersTo s) (whole-line [] bs more h) ∙ answers-one s (take (lineLength bs) bs) (linesOf (drop (lineLength bs + 1) bs ++ more))
 
 -- ---- a line that has begun has no LF, nor has its front
 behind-lf : (b : ℕ) (t : List ℕ) → NoLf (b ∷ t) → (eqb b lf ≡ false) × NoLf t

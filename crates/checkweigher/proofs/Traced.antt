@@ -23,7 +23,7 @@ use Rattle.blocks.specs.declared.output.Taken.{Taken}
 use Rattle.blocks.specs.Taken.{TakenOf}
 use Rattle.controller.specs.Answer.{noRoom}
 use Rattle.controller.specs.Input.{printed, program}
-use Rattle.checkweigher.specs.Sessions.{Says, AnsweredUpTo}
+use Rattle.sessions.specs.Sessions.{Says, AnsweredUpTo}
 use Rattle.checkweigher.specs.Traces.{GoesOn, writtenIn, Traced, Whole, Begun, CutShort}
 use Rattle.checkweigher.proofs.Prints.{prints-none, prints-kept, prints-closed, kept-no-lf, ended-closed}
 

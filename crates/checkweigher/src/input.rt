@@ -3,12 +3,12 @@ ghost use mathlib.Core.Path.{_≡_};
 ghost use lib.ListN.{length};
 ghost use Rattle.controller.specs.Answer.{noRoom};
 ghost use Rattle.checkweigher.specs.Traces.{GoesOn, EndsSo};
-use crate::block::serve_block;
 use blocks::Left;
 use blocks::Taken;
 use blocks::write_out;
 use controller::no_room;
 use line::Line;
+use sessions::serve_block;
 use settings::RECORDS;
 use settings::Settings;
 

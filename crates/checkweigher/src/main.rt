@@ -1,5 +1,4 @@
 // The checkweigher: lines from standard input, each answered on standard output.
-mod block;
 mod input;
 
 use input::serve_input;

@@ -3,9 +3,9 @@ use borrow.Author.Needs.{needs}
 use mathlib.Core.Path.{refl, sym}
 use native.Mathlib.Omega.{arith}
 use lib.ListN.{length}
-use Rattle.checkweigher.proofs.Goes.{stops-last}
-use Rattle.checkweigher.proofs.block.next.Statement.{statement}
-use Rattle.checkweigher.proofs.block.next.Tie as tie
+use Rattle.sessions.proofs.Goes.{stops-last}
+use Rattle.sessions.proofs.block.next.Statement.{statement}
+use Rattle.sessions.proofs.block.next.Tie as tie
 
 returns : tie.Need-returns
 returns c = search needs

@@ -1,10 +1,8 @@
 // The lines of a block of input, each answered in its turn.
-ghost use Prim.Native.Nat.{_≤_};
 ghost use mathlib.Core.Path.{_≡_};
 ghost use lib.ListN.{length, drop};
 ghost use Rattle.line.specs.State.{state};
-ghost use Rattle.controller.specs.Answer.{answerRoom};
-ghost use Rattle.checkweigher.specs.Sessions.{stopAt, Ends, Begins, Follows, AnsweredUpTo};
+ghost use Rattle.sessions.specs.Sessions.{stopAt, Ends, Begins, Follows, AnsweredUpTo};
 use blocks::line_end;
 use controller::Served;
 use controller::no_room;
@@ -14,11 +12,13 @@ use settings::RECORDS;
 use settings::Settings;
 
 // What a block leaves: the line, the settings records, where what is left of the block begins, and where the answers end.
-pub(crate) struct Block {
-    pub(crate) line: Line,
-    pub(crate) settings: [Settings; RECORDS as usize],
-    pub(crate) start: usize,
-    pub(crate) at: usize,
+pub struct Block {
+    pub line: Line,
+    pub settings: [Settings; RECORDS as usize],
+    // a place in the block, at most its length
+    pub start: usize,
+    // a count of bytes of the output, at most its length
+    pub at: usize,
 }
 
 // A session over a block: the line of text that begins at `start` ends at `end`, and its answer goes to `at`.
@@ -29,11 +29,11 @@ pub(crate) struct Session {
     pub(crate) at: usize,
 }
 
-// The session at the first line of a block.
-pub(crate) fn begin(line: Line, input: &[u8]) -> Session
-    ensures { λ r. ⌜ Begins line (now (input .entry)) r ⌝ }
+// The session at the first line of a block, for an output of so many bytes.
+pub(crate) fn begin(line: Line, input: &[u8], room: usize) -> Session
+    ensures { λ r. ⌜ Begins line (now (input .entry)) room r ⌝ }
 {
-    let end = line_end(input, 0);
+    let end = stop_at(input, 0, room, 0);
     Session {
         line: line,
         start: 0,
@@ -111,18 +111,17 @@ pub(crate) fn rest(last: Session, settings: [Settings; RECORDS as usize]) -> Blo
 }
 
 // The complete lines of a block, with the line's own records lent to each.
-pub(crate) fn serve_block(
+pub fn serve_block(
     line: Line,
     settings: [Settings; RECORDS as usize],
     tallies: &mut [i64],
     input: &[u8],
     out: &mut [u8],
 ) -> Block
-    requires { ⌜ answerRoom ≤ length (now out) ⌝ }
     ensures { λ r. ⌜ AnsweredUpTo (state line settings (now (tallies .entry))) (now (input .entry)) (now (input .entry)) (now (out .exit)) (state (r .line) (r .settings) (now (tallies .exit))) (r .start) (r .at) ⌝ }
 {
     let mut records = settings;
-    let session = begin(line, input);
+    let session = begin(line, input, out.len());
     let last = serve_lines(session, &mut records, tallies, input, out);
     rest(last, records)
 }

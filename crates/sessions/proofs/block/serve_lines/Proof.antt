@@ -56,31 +56,31 @@ use Rattle.settings.specs.declared.Settings.{Settings}
 use Rattle.controller.specs.declared.Served.{Served}
 use Rattle.line.specs.declared.line.Line.{Line}
 use Rattle.controller.specs.Answer.{noRoom}
-use Rattle.checkweigher.specs.Sessions.{Ends, Follows, AnsweredUpTo}
-use Rattle.checkweigher.specs.declared.block.Session.{Session}
+use Rattle.sessions.specs.Sessions.{Ends, Follows, AnsweredUpTo}
+use Rattle.sessions.specs.declared.block.Session.{Session}
 use Rattle.settings.proofs.Settings as T
 use Rattle.line.proofs.line.Line.Laws as L′
 use Rattle.controller.proofs.Served as O
 use Rattle.controller.proofs.Served.Laws as O′
-use Rattle.checkweigher.proofs.block.Session as S
-use Rattle.checkweigher.proofs.block.Session.Laws as S′
+use Rattle.sessions.proofs.block.Session as S
+use Rattle.sessions.proofs.block.Session.Laws as S′
 use Rattle.controller.proofs.serve.Symbol as serve-def
 use Rattle.controller.proofs.serve.Symbol.{name as #serve}
 use Rattle.controller.proofs.serve.Met as serve-thm
-use Rattle.checkweigher.proofs.block.next.Symbol as next-def
-use Rattle.checkweigher.proofs.block.next.Symbol.{name as #next}
-use Rattle.checkweigher.proofs.block.next.Met as next-thm
+use Rattle.sessions.proofs.block.next.Symbol as next-def
+use Rattle.sessions.proofs.block.next.Symbol.{name as #next}
+use Rattle.sessions.proofs.block.next.Met as next-thm
 use Rattle.walks.proofs.Lending.{ref, recell, settles-at, by-cases, tyOf, use4, use8, lend-mut, back-mut, lend-shr, back-shr}
 use Rattle.walks.proofs.Parts.{PartOwn, part-of}
 use Rattle.walks.proofs.Leaving.{locals-at, leaves}
-use Rattle.checkweigher.proofs.Goes.{Answers, Said, session-order, session-within, session-goes, session-last, said-first}
-use Rattle.checkweigher.proofs.Sessions.{sessionVal, Whole, session-is, whole-of}
-use Rattle.checkweigher.proofs.Lines.{Serve, to-serve, asks-serve, ended-serve, Next, to-next, asks-next, ended-next}
-use Rattle.checkweigher.proofs.block.serve_lines.Key.{name as #f}
-use Rattle.checkweigher.proofs.block.serve_lines as f
-use Rattle.checkweigher.proofs.block.serve_lines.Statement as stated
-use Rattle.checkweigher.proofs.block.serve_lines.Code as code
-use Rattle.checkweigher.proofs.block.serve_lines.Code.Mir as Mir
+use Rattle.sessions.proofs.Goes.{Answers, Said, session-order, session-within, session-goes, session-last, said-first}
+use Rattle.sessions.proofs.Sessions.{sessionVal, Whole, session-is, whole-of}
+use Rattle.sessions.proofs.Lines.{Serve, to-serve, asks-serve, ended-serve, Next, to-next, asks-next, ended-next}
+use Rattle.sessions.proofs.block.serve_lines.Key.{name as #f}
+use Rattle.sessions.proofs.block.serve_lines as f
+use Rattle.sessions.proofs.block.serve_lines.Statement as stated
+use Rattle.sessions.proofs.block.serve_lines.Code as code
+use Rattle.sessions.proofs.block.serve_lines.Code.Mir as Mir
 
 abbrev R : RattleType
 R = T.the-row
@@ -334,4 +334,4 @@ serve-lines-spec 𝓤 H 𝓜 𝓖 𝓡 =
     (tables 𝓤 H 𝓜 𝓡 code.env .C) (tables 𝓤 H 𝓜 𝓡 code.env .Λ) #f code.function (code.unfolded 𝓤 H 𝓜 𝓡)
     (meets 𝓤 H (𝓖 .A) (givenOf 𝓤 H 𝓜 𝓖) (𝓜 .mem) (𝓡 .run) (tablesOf 𝓤 H 𝓜 (tables 𝓤 H 𝓜 𝓡 code.env))
     (cited 𝓤 H (Serve 𝓤 H (𝓖 .A) (𝓜 .mem) (𝓡 .run)) 𝓜 𝓡 code.env #serve serve-def.routine code.calls-controller·serve (serve-thm.met 𝓤 H 𝓜 𝓖 𝓡))
-    (cited 𝓤 H (Next 𝓤 H (𝓖 .A) (𝓜 .mem) (𝓡 .run)) 𝓜 𝓡 code.env #next next-def.routine code.calls-checkweigher·block·next (next-thm.met 𝓤 H 𝓜 𝓖 𝓡)))
+    (cited 𝓤 H (Next 𝓤 H (𝓖 .A) (𝓜 .mem) (𝓡 .run)) 𝓜 𝓡 code.env #next next-def.routine code.calls-sessions·block·next (next-thm.met 𝓤 H 𝓜 𝓖 𝓡)))

@@ -39,13 +39,13 @@ use Rattle.controller.specs.declared.Served.{Served}
 use Rattle.controller.proofs.Served as O
 use Rattle.controller.proofs.Served.Laws as O′
 use Rattle.controller.proofs.serve as serve
-use Rattle.checkweigher.specs.Sessions.{Follows}
-use Rattle.checkweigher.specs.declared.block.Session.{Session}
-use Rattle.checkweigher.proofs.block.Session as S
-use Rattle.checkweigher.proofs.block.Session.Laws as S′
-use Rattle.checkweigher.proofs.block.next as next
-use Rattle.checkweigher.proofs.Goes.{Answers}
-use Rattle.checkweigher.proofs.Sessions.{sessionVal, Whole, whole-of}
+use Rattle.sessions.specs.Sessions.{Follows}
+use Rattle.sessions.specs.declared.block.Session.{Session}
+use Rattle.sessions.proofs.block.Session as S
+use Rattle.sessions.proofs.block.Session.Laws as S′
+use Rattle.sessions.proofs.block.next as next
+use Rattle.sessions.proofs.Goes.{Answers}
+use Rattle.sessions.proofs.Sessions.{sessionVal, Whole, whole-of}
 
 module _ {M : Type 1} (𝓤 : URA M) (H : Heap 𝓤) (A : Atoms 𝓤) (mem : Memory → SProp 𝓤) (run : Routine → Fun 𝓤) where
   abbrev pub Serve : Contract 𝓤

@@ -1,8 +1,8 @@
 -- `stop_at` stops at the line's end, or, with too little room, at the block's. Assumes nothing.
 use borrow.Author.Needs.{needs}
 use mathlib.Core.Path.{refl, sym, _∙_}
-use Rattle.checkweigher.proofs.block.stop_at.Statement.{statement}
-use Rattle.checkweigher.proofs.block.stop_at.Tie as tie
+use Rattle.sessions.proofs.block.stop_at.Statement.{statement}
+use Rattle.sessions.proofs.block.stop_at.Tie as tie
 
 returns : tie.Need-returns
 returns c = rw (sym (c .before .no-room .ensures) ∙ c .if1 .taken) refl

@@ -10,9 +10,9 @@ use denote.Laws.{Is}
 use denote.Struct.Laws as LL
 use Rattle.line.proofs.line.Line as L
 use Rattle.line.proofs.line.Line.Laws as L′
-use Rattle.checkweigher.specs.declared.block.Session.{Session}
-use Rattle.checkweigher.proofs.block.Session as S
-use Rattle.checkweigher.proofs.block.Session.Laws as S′
+use Rattle.sessions.specs.declared.block.Session.{Session}
+use Rattle.sessions.proofs.block.Session as S
+use Rattle.sessions.proofs.block.Session.Laws as S′
 
 abbrev pub sessionVal : Val → Session → Val
 sessionVal lv x = vstruct (vcons lv (vcons (vint w64 (x .start)) (vcons (vint w64 (x .end)) (vcons (vint w64 (x .at)) vnil))))

@@ -7,21 +7,20 @@ use native.Mathlib.Omega.{arith}
 use lib.IntN.{ℤ}
 use lib.ListN.{length, take, drop, length-drop, length-append}
 use lib.Seq.{drop-drop, length-take-le, take-at}
-use borrow.Author.Tests.{le-ltb}
 use Rattle.laws.proofs.Tests.{by-cases}
 use Rattle.settings.specs.declared.Settings.{Settings}
 use Rattle.line.specs.State.{State, state}
 use Rattle.line.specs.declared.line.Line.{Line}
 use Rattle.text.specs.Read.{readLine}
-use Rattle.controller.specs.Answer.{answerRoom, noRoom, putAt}
+use Rattle.controller.specs.Answer.{noRoom, putAt}
 use Rattle.controller.specs.Serve.{answerTo, stateAfter, Serving, serving, servedOf}
 use Rattle.controller.specs.declared.Served.{Served}
 use Rattle.controller.specs.Input.{printed}
 use Rattle.blocks.specs.Lines.{lineLength, NoLf, endFrom}
 use Rattle.blocks.proofs.Ends.{at-most, end-within, ends-last}
-use Rattle.checkweigher.specs.Sessions.{stopAt, Ends, Begins, Follows, Says}
-use Rattle.checkweigher.specs.declared.block.Session.{Session}
-use Rattle.checkweigher.proofs.Prints.{prints-line}
+use Rattle.sessions.specs.Sessions.{stopAt, Ends, Begins, Follows, Says}
+use Rattle.sessions.specs.declared.block.Session.{Session}
+use Rattle.sessions.proofs.Prints.{prints-line}
 
 -- what `serve` answers to a line of text, and what it leaves
 abbrev pub Answers : Line → List Settings → List ℤ → List ℕ → List ℕ → ℕ → Served → List Settings → List ℤ → List ℕ → Type 0
@@ -41,11 +40,9 @@ pub record Said (s : State) (bytes input : List ℕ) (k : Line) (ss : List Setti
   pub fits : at ≤ length us
   pub says : Says s bytes (state k ss ts) (drop start input) (take at us)
 
--- the first line of text, where the output has room for an answer
-pub begins-ends : (k : Line) (input : List ℕ) (room : ℕ) (s : Session) → Begins k input s → answerRoom ≤ room → (Ends input room s) × (s .at ≡ 0)
-begins-ends k input room s b h =
-    let n : noRoom room 0 ≡ false = le-ltb room (0 + answerRoom) (omega (arith, h)) in
-    ((rw (b .1) (omega arith), b .2 ∙ rw (b .1, b .3, n) refl), b .3)
+-- the first line of text
+pub begins-ends : (k : Line) (input : List ℕ) (room : ℕ) (s : Session) → Begins k input room s → (Ends input room s) × (s .at ≡ 0)
+begins-ends k input room s b = ((rw (b .1) (omega arith), b .2 ∙ rw (b .1, b .3) refl), b .3)
 
 -- nothing has been said yet
 pub said-first : (k : Line) (ss : List Settings) (ts : List ℤ) (us input : List ℕ) (s : Session) → s .at ≡ 0

@@ -10,7 +10,7 @@ use Rattle.line.specs.declared.line.Line.{Line}
 use Rattle.blocks.specs.Lines.{NoLf, endFrom}
 use Rattle.controller.specs.Answer.{noRoom}
 use Rattle.controller.specs.Input.{printed}
-use Rattle.checkweigher.specs.declared.block.Session.{Session}
+use Rattle.sessions.specs.declared.block.Session.{Session}
 
 -- where the line of text ends that begins at start, if its answer has room behind at; else the input's end
 abbrev pub stopAt : List ℕ → ℕ → ℕ → ℕ → ℕ
@@ -21,8 +21,8 @@ abbrev pub Ends : List ℕ → ℕ → Session → Type 0
 Ends input room s = (s .start ≤ length input) × (s .end ≡ stopAt input room (s .start) (s .at))
 
 -- a session at the first line of text
-abbrev pub Begins : Line → List ℕ → Session → Type 0
-Begins l input s = (s .line ≡ l) × (s .start ≡ 0) × (s .end ≡ endFrom input 0) × (s .at ≡ 0)
+abbrev pub Begins : Line → List ℕ → ℕ → Session → Type 0
+Begins l input room s = (s .line ≡ l) × (s .start ≡ 0) × (s .end ≡ stopAt input room 0 0) × (s .at ≡ 0)
 
 -- a session behind the line of text whose LF stands at lf, and whose answer ends at at
 abbrev pub Follows : Line → ℕ → List ℕ → ℕ → ℕ → Session → Type 0

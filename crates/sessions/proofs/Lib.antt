@@ -1,0 +1,5 @@
+pub mod Prints
+pub mod Goes
+pub mod Sessions
+pub mod Lines
+pub mod Blocks
