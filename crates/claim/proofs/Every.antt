@@ -38,6 +38,7 @@ use Rattle.line.specs.declared.line.Line.{Line}
 use Rattle.line.specs.declared.effect.Effect.{Effect}
 use Rattle.event.specs.declared.reply.Reply.{Reply}
 use Rattle.event.specs.declared.reply.Reply.the-variants.{Refused, Done}
+use Rattle.refusal.specs.Table.{memoryNo, nothingNo}
 use Rattle.refusal.proofs.Lengths.{right-lengths}
 use Rattle.refusal.proofs.Numbers.{not-eight}
 use Rattle.line.proofs.Facts.{FitLine, tells-fit}
@@ -228,7 +229,7 @@ sound-always w e h =
     (rw (h .records .fit (l .code) low) (or-true (not (readsRecord e)))))
     (rw (lies-there ts (l .code) low (h .given .sheets .len), h .given .sheets .fit (l .code) low) (or-true (not (readsTally e))))
 
-never-eight : (l : Line) (count : ℕ) (a : Settings) (ts : List ℤ) (e : Event) → memorySound l count a ts e ≡ true → refusalOf l count a ts e ≢ 8
+never-eight : (l : Line) (count : ℕ) (a : Settings) (ts : List ℤ) (e : Event) → memorySound l count a ts e ≡ true → refusalOf l count a ts e ≢ memoryNo
 unfolding refusalOf
 never-eight l count a ts e h = not-eight (faultsOf l count a ts e) (rw h refl)
 
@@ -245,11 +246,11 @@ refusal-shown l count a ts e =
     (λ z. no-refusal (accepted l a ts e .reply) (accepted-done l a ts e) ∙ sym (eqb-true n 0 z))
     (λ _. refl)
 
-cancel-answer : (l : Line) (count : ℕ) (a : Settings) (ts : List ℤ) → memorySound l count a ts Cancel ≡ true → refusalOf l count a ts Cancel ≡ (if chanceOf (l .undo) then 0 else 7)
+cancel-answer : (l : Line) (count : ℕ) (a : Settings) (ts : List ℤ) → memorySound l count a ts Cancel ≡ true → refusalOf l count a ts Cancel ≡ (if chanceOf (l .undo) then 0 else nothingNo)
 unfolding refusalOf eventRanged statusWrong eventAgrees runUnsafe runOccupied nothingToCancel
 cancel-answer l count a ts h = rw h (by (l .undo))
   where
-    by : (u : Undo) → _≡_ {A = ℕ} (if noChance u then 7 else 0) (if chanceOf u then 0 else 7)
+    by : (u : Undo) → _≡_ {A = ℕ} (if noChance u then nothingNo else 0) (if chanceOf u then 0 else nothingNo)
     by u = by-cases (noChance u) (λ y. rw y refl) (λ n. rw n refl)
 
 page-report : (p : List Verdict) → Page p → reportFit (tallyOfPage p) ≡ true

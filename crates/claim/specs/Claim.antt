@@ -12,6 +12,7 @@ use Rattle.tallies.specs.Memory.{numbers, part}
 use Rattle.sheet.specs.Sheet.{sheetOf}
 use Rattle.sheet.specs.Report.{printed, reportOn}
 use Rattle.item.specs.Item.{inHand}
+use Rattle.refusal.specs.Table.{memoryNo, nothingNo}
 use Rattle.event.specs.declared.reply.Reply.{Reply}
 use Rattle.event.specs.declared.reply.Reply.the-variants.{Refused, Done}
 use Rattle.book.specs.Book.{talliedBy, bookOf}
@@ -41,13 +42,13 @@ pub record Stands (w : World) : Type 0 where
   -- "Tallied is 1 exactly when a verdict was put on a page"
   pub tallied : (e : Event) → talliedIn (answer w e .reply) ≡ talliedBy (bookOf (w .history)) (answer w e .reply)
   -- "a cancel is accepted exactly at a chance"
-  pub cancelled : refusalIn (answer w Cancel .reply) ≡ (if bookOf (w .history) .chance then 0 else 7)
+  pub cancelled : refusalIn (answer w Cancel .reply) ≡ (if bookOf (w .history) .chance then 0 else nothingNo)
   -- each code's sheet is printed, with the figures of the verdicts standing under it in the book
   pub sheets : (code : ℕ) → code ≤ lastCode
       → reportOn (w .state .settings) (w .state .tallies) code
       ≡ printed (sheetOf (tallyOfPage (bookOf (w .history) .pages code)) (getD (w .state .settings) code blank .target))
   -- no event of a list is ever refused 8
-  pub sound : (e : Event) → refusalIn (answer w e .reply) ≢ 8
+  pub sound : (e : Event) → refusalIn (answer w e .reply) ≢ memoryNo
 
 abbrev pub Claim : Type 0
 Claim = (events : List Event) → Stands (run events)

@@ -1,12 +1,14 @@
 -- 01, "Text lines": what is answered to a line of text, and where in a lent buffer it is written.
 use Prim.Native.Nat.{ℕ, _+_}
-use mathlib.Core.Bool.{Bool}
+use mathlib.Core.Bool.{Bool, true, false}
 use mathlib.Core.List.{List, _++_}
 use lib.Dec.{eqb, ltb}
 use lib.IntN.{ℤ}
 use lib.ListN.{take, drop}
 use Rattle.laws.specs.Choice.{if_then_else_}
 use Rattle.refusal.specs.Rows.{lengthsWrong}
+use Rattle.refusal.specs.Table.{table, firstHolding}
+use Rattle.refusal.specs.declared.Faults.{Faults}
 use Rattle.sheet.specs.declared.answer.Report.{Report}
 use Rattle.event.specs.declared.reply.Reply.the-variants.{Refused}
 use Rattle.print.specs.Reply.{replyText}
@@ -18,9 +20,22 @@ abbrev pub reportAnswer : ℕ → Report → List ℕ
 reportAnswer code r =
     if eqb (r .number) 0 then sheetText code (r .sheet) else replyText (Refused (r .number) (r .input))
 
--- "A line that reads as no event and no report is refused 1"; "Every call checks both lengths" (8) before that
+-- "A line that reads as no event and no report is refused 1": which conditions of the table hold; "Every call checks both lengths"
+abbrev pub textFaults : ℕ → List ℤ → Faults
+textFaults count ts =
+    record {
+      memory = lengthsWrong count ts;
+      form = true;
+      value = false;
+      status = false;
+      contradiction = false;
+      safety = false;
+      occupied = false;
+      nothing = false;
+    }
+
 abbrev pub textRefusal : ℕ → List ℤ → ℕ
-textRefusal count ts = if lengthsWrong count ts then 8 else 1
+textRefusal count ts = firstHolding (table (textFaults count ts))
 
 abbrev pub refusedAnswer : ℕ → List ℤ → List ℕ
 refusedAnswer count ts = replyText (Refused (textRefusal count ts) 0)

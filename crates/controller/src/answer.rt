@@ -6,6 +6,7 @@ ghost use Rattle.print.specs.Reply.{replyText};
 ghost use Rattle.print.specs.Sheet.{sheetText};
 ghost use Rattle.controller.specs.Answer.{answerRoom, noRoom, reportAnswer, textRefusal, refusedAnswer, putAt};
 use event::Reply;
+use refusal::Faults;
 use sheet::Report;
 use sheet::Sheet;
 
@@ -60,10 +61,17 @@ pub(crate) fn put_report(out: &mut [u8], at: usize, code: u64, r: Report) -> usi
 fn refusal_of_text(count: usize, tallies: &[i64]) -> u64
     ensures { λ r. ⌜ r ≡ textRefusal count (now (tallies .entry)) ⌝ }
 {
-    if refusal::lengths_wrong(count as u64, tallies) {
-        return 8;
-    }
-    1
+    let faults = Faults {
+        memory: refusal::lengths_wrong(count as u64, tallies),
+        form: true,
+        value: false,
+        status: false,
+        contradiction: false,
+        safety: false,
+        occupied: false,
+        nothing: false,
+    };
+    faults.number()
 }
 
 // The refusal of text that is no event and no report.

@@ -1,12 +1,12 @@
 -- 01, "Refusal numbers of the manual's kind": when each condition of the table holds.
 use Prim.Native.Nat.{ℕ}
-use mathlib.Core.Bool.{Bool, _&&_, _||_, not}
+use mathlib.Core.Bool.{Bool, false, _&&_, _||_, not}
 use mathlib.Core.List.{List}
 use lib.Dec.{eqb}
 use lib.IntN.{ℤ}
 use Rattle.laws.specs.Choice.{if_then_else_}
 use Rattle.mask.specs.Bits.{lowestOff}
-use Rattle.refusal.specs.Table.{table, firstHolding}
+use Rattle.refusal.specs.Table.{safetyNo, table, firstHolding}
 use Rattle.refusal.specs.Rows.{lengthsWrong, readsRecord, readsTally, statusWrong, runUnsafe, runOccupied, nothingToCancel}
 use Rattle.refusal.specs.declared.Faults.{Faults}
 use Rattle.settings.specs.Settings.{recordFit}
@@ -33,6 +33,7 @@ abbrev pub faultsOf : Line → ℕ → Settings → List ℤ → Event → Fault
 faultsOf l count a ts e =
     record {
       memory = not (memorySound l count a ts e);
+      form = false;
       value = not (eventRanged e);
       status = statusWrong (l .status) e;
       contradiction = not (eventAgrees e);
@@ -47,4 +48,4 @@ refusalOf l count a ts e = firstHolding (table (faultsOf l count a ts e))
 
 -- "input is the number of the lowest required input that is off (0 but for 5)"
 unfoldable pub inputOf : Line → ℕ → ℕ
-inputOf l number = if eqb number 5 then inputOff l else 0
+inputOf l number = if eqb number safetyNo then inputOff l else 0

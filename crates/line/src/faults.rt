@@ -46,6 +46,7 @@ impl Line {
         if let Event::Sample(s) = e {
             let faults = Faults {
                 memory: !sound,
+                form: false,
                 value: !s.ranged(),
                 status: false,
                 contradiction: false,
@@ -59,6 +60,7 @@ impl Line {
         let undo = self.undo;
         let faults = Faults {
             memory: !sound,
+            form: false,
             value: !e.ranged(),
             status: status_wrong(self.status, e),
             contradiction: !e.agrees(),
@@ -73,7 +75,7 @@ impl Line {
     pub(crate) fn input(self, number: u64) -> u64
         ensures { λ r. ⌜ r ≡ inputOf self number ⌝ }
     {
-        if number == 5 {
+        if number == refusal::SAFETY {
             return self.input_off();
         }
         0

@@ -6,26 +6,28 @@ use Prim.Native.Nat.{ℕ, suc}
 use native.Mathlib.Omega.{arith}
 use Rattle.laws.specs.Choice.{if_then_else_}
 use Rattle.laws.proofs.Tests.{if-ind}
-use Rattle.refusal.specs.Table.{table, firstHolding}
+use Rattle.refusal.specs.Table.{memoryNo, nothingNo, table, firstHolding}
 use Rattle.refusal.specs.declared.Faults.{Faults}
 
--- 8 is that of memory alone
-pub not-eight : (f : Faults) → f .memory ≡ false → firstHolding (table f) ≢ 8
+-- no. 8 is that of memory alone
+pub not-eight : (f : Faults) → f .memory ≡ false → firstHolding (table f) ≢ memoryNo
 not-eight f h =
     rw h
-    (if-ind Other (f .value) _ _ (λ _ x. omega arith)
+    (if-ind Other (f .form) _ _ (λ _ x. omega arith)
+    (λ _. if-ind Other (f .value) _ _ (λ _ x. omega arith)
     (λ _. if-ind Other (f .status) _ _ (λ _ x. omega arith)
     (λ _. if-ind Other (f .contradiction) _ _ (λ _ x. omega arith)
     (λ _. if-ind Other (f .safety) _ _ (λ _ x. omega arith)
     (λ _. if-ind Other (f .occupied) _ _ (λ _ x. omega arith)
-    (λ _. if-ind Other (f .nothing) 7 0 (λ _ x. omega arith) (λ _ x. omega arith)))))))
+    (λ _. if-ind Other (f .nothing) nothingNo 0 (λ _ x. omega arith) (λ _ x. omega arith))))))))
   where
     Other : ℕ → Type 0
-    Other n = n ≢ 8
+    Other n = n ≢ memoryNo
 
 -- no condition of the table holds
 pub record NoneHolds (f : Faults) : Type 0 where
   pub memory : f .memory ≡ false
+  pub form : f .form ≡ false
   pub value : f .value ≡ false
   pub status : f .status ≡ false
   pub contradiction : f .contradiction ≡ false
@@ -41,7 +43,8 @@ passed false k x h = (refl, h)
 pub none-holds : (f : Faults) → firstHolding (table f) ≡ 0 → NoneHolds f
 none-holds f h =
     let r8 = passed (f .memory) 7 _ h in
-    let r2 = passed (f .value) 1 _ (r8 .1) in
+    let r1 = passed (f .form) 0 _ (r8 .1) in
+    let r2 = passed (f .value) 1 _ (r1 .1) in
     let r3 = passed (f .status) 2 _ (r2 .1) in
     let r4 = passed (f .contradiction) 3 _ (r3 .1) in
     let r5 = passed (f .safety) 4 _ (r4 .1) in
@@ -49,6 +52,7 @@ none-holds f h =
     let r7 = passed (f .nothing) 6 _ (r6 .1) in
     record {
       memory = r8 .0;
+      form = r1 .0;
       value = r2 .0;
       status = r3 .0;
       contradiction = r4 .0;

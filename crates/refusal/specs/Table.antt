@@ -5,21 +5,47 @@ use mathlib.Core.List.{List, [], _∷_}
 use Rattle.laws.specs.Choice.{if_then_else_}
 use Rattle.refusal.specs.declared.Faults.{Faults}
 
+-- the column "no."
+abbrev pub memoryNo : ℕ
+memoryNo = 8
+
+abbrev pub formNo : ℕ
+formNo = 1
+
+abbrev pub valueNo : ℕ
+valueNo = 2
+
+abbrev pub statusNo : ℕ
+statusNo = 3
+
+abbrev pub contradictionNo : ℕ
+contradictionNo = 4
+
+abbrev pub safetyNo : ℕ
+safetyNo = 5
+
+abbrev pub occupiedNo : ℕ
+occupiedNo = 6
+
+abbrev pub nothingNo : ℕ
+nothingNo = 7
+
 -- a line of the table
 pub record Rule : Type 0 where
   pub number : ℕ
   pub holds : Bool
 
--- the table in its order, but for 1, form, which is the text's
+-- the table in its order
 abbrev pub table : Faults → List Rule
 table f =
-    record { number = 8; holds = f .memory }
-    ∷ record { number = 2; holds = f .value }
-    ∷ record { number = 3; holds = f .status }
-    ∷ record { number = 4; holds = f .contradiction }
-    ∷ record { number = 5; holds = f .safety }
-    ∷ record { number = 6; holds = f .occupied }
-    ∷ record { number = 7; holds = f .nothing }
+    record { number = memoryNo; holds = f .memory }
+    ∷ record { number = formNo; holds = f .form }
+    ∷ record { number = valueNo; holds = f .value }
+    ∷ record { number = statusNo; holds = f .status }
+    ∷ record { number = contradictionNo; holds = f .contradiction }
+    ∷ record { number = safetyNo; holds = f .safety }
+    ∷ record { number = occupiedNo; holds = f .occupied }
+    ∷ record { number = nothingNo; holds = f .nothing }
     ∷ []
 
 -- the number of the first rule that holds, 0 if none does

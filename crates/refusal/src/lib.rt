@@ -12,9 +12,27 @@ pub use rows::run_occupied;
 pub use rows::run_unsafe;
 pub use rows::status_wrong;
 
-// Which conditions of the table hold. 1, form, is the text's.
+// The numbers of the table, in its order.
+pub const MEMORY: u64 = 8;
+
+pub const FORM: u64 = 1;
+
+pub const VALUE: u64 = 2;
+
+pub const STATUS: u64 = 3;
+
+pub const CONTRADICTION: u64 = 4;
+
+pub const SAFETY: u64 = 5;
+
+pub const OCCUPIED: u64 = 6;
+
+pub const NOTHING: u64 = 7;
+
+// Which conditions of the table hold.
 pub struct Faults {
     pub memory: bool,
+    pub form: bool,
     pub value: bool,
     pub status: bool,
     pub contradiction: bool,
@@ -29,25 +47,28 @@ impl Faults {
         ensures { λ r. ⌜ r ≡ firstHolding (table self) ⌝ }
     {
         if self.memory {
-            return 8;
+            return MEMORY;
+        }
+        if self.form {
+            return FORM;
         }
         if self.value {
-            return 2;
+            return VALUE;
         }
         if self.status {
-            return 3;
+            return STATUS;
         }
         if self.contradiction {
-            return 4;
+            return CONTRADICTION;
         }
         if self.safety {
-            return 5;
+            return SAFETY;
         }
         if self.occupied {
-            return 6;
+            return OCCUPIED;
         }
         if self.nothing {
-            return 7;
+            return NOTHING;
         }
         0
     }

@@ -23,11 +23,12 @@ memoryWrong count r ts code =
     lengthsWrong count ts
     || (isCode code && (not (recordFit r) || not (fitAt ts code) || not (reportFit (readAt ts code))))
 
--- which conditions of the table hold: 3 to 7 are an event's
+-- which conditions of the table hold: no. 1 is other text's, 3 to 7 are an event's
 abbrev pub reportFaults : ℕ → Settings → List ℤ → ℕ → Faults
 reportFaults count r ts code =
     record {
       memory = memoryWrong count r ts code;
+      form = false;
       value = not (isCode code);
       status = false;
       contradiction = false;

@@ -32,6 +32,7 @@ fn report_refusal(count: u64, own: Settings, tallies: &[i64], code: u64) -> u64
 {
     let faults = Faults {
         memory: memory_wrong(count, own, tallies, code),
+        form: false,
         value: !is_code(code),
         status: false,
         contradiction: false,

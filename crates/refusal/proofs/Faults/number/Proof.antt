@@ -24,7 +24,10 @@ returns-7 : tie.Need-returns-7
 returns-7 c = simp (c .if7 .taken, c .before .if6 .left, c .before .before .if5 .left, c .before .before .before .if4 .left, c .before .before .before .before .if3 .left, c .before .before .before .before .before .if2 .left, c .before .before .before .before .before .before .if1 .left)
 
 returns-8 : tie.Need-returns-8
-returns-8 c = simp (c .if7 .left, c .before .if6 .left, c .before .before .if5 .left, c .before .before .before .if4 .left, c .before .before .before .before .if3 .left, c .before .before .before .before .before .if2 .left, c .before .before .before .before .before .before .if1 .left)
+returns-8 c = simp (c .if8 .taken, c .before .if7 .left, c .before .before .if6 .left, c .before .before .before .if5 .left, c .before .before .before .before .if4 .left, c .before .before .before .before .before .if3 .left, c .before .before .before .before .before .before .if2 .left, c .before .before .before .before .before .before .before .if1 .left)
+
+returns-9 : tie.Need-returns-9
+returns-9 c = simp (c .if8 .left, c .before .if7 .left, c .before .before .if6 .left, c .before .before .before .if5 .left, c .before .before .before .before .if4 .left, c .before .before .before .before .before .if3 .left, c .before .before .before .before .before .before .if2 .left, c .before .before .before .before .before .before .before .if1 .left)
 
 pub number-spec : {M : Type 1} → statement M
 number-spec =
@@ -37,4 +40,5 @@ number-spec =
     returns-5
     returns-6
     returns-7
-    returns-8)
+    returns-8
+    returns-9)
