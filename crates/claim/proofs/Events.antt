@@ -2,7 +2,7 @@
 use mathlib.Core.Path.{_≡_, refl, sym, subst, _∙_}
 use mathlib.Core.Bool.{Bool, true, false, _&&_, _||_, not, and-false, and-true, or-true, or-false}
 use mathlib.Core.List.{List, [], _∷_}
-use Prim.Native.Nat.{ℕ}
+use Prim.Native.Nat.{ℕ, _≤_}
 use native.Mathlib.Omega.{arith}
 use lib.Dec.{T, eqb, leb}
 use lib.IntN.{ℤ}
@@ -27,7 +27,8 @@ use Rattle.item.specs.Item.{inHand, itemFit}
 use Rattle.line.specs.Effect.{plain, halting, replied}
 use Rattle.line.specs.Sample.{sampled}
 use Rattle.line.specs.Command.{ran, stopping, alarmed}
-use Rattle.refusal.specs.Rows.{readsRecord, statusWrong, nothingToCancel}
+use Rattle.refusal.proofs.Status.{setup-stopped}
+use Rattle.refusal.specs.Rows.{readsRecord, statusRefusal, nothingToCancel}
 use Rattle.undo.specs.Undo.{nothing, noChance, undoFit, putBack}
 use Rattle.line.specs.Tallying.{untallied, cancelled, recalled, codeCleared, clearedOne, clearedAll}
 use Rattle.line.specs.Step.{storing, accepted}
@@ -109,6 +110,13 @@ stopped-empty l h s =
     let idle = not ((eqb (l .status) stopped || eqb (l .status) emergency) && (inHand (l .item) || sorting (l .sorter))) in
     let a = both (leb (l .status) 3 && errorKnown (l .error) && (eqb (l .status) paused || eqb (l .error) noError)) idle h in
     or-false-left (inHand (l .item)) (sorting (l .sorter)) (not-true _ (rw s at (a .1)))
+
+status-known : (l : Line) → statusFit l ≡ true → l .status ≤ 3
+unfolding statusFit
+status-known l h =
+    let a = both (leb (l .status) 3 && errorKnown (l .error) && (eqb (l .status) paused || eqb (l .error) noError)) _ h in
+    let b = both (leb (l .status) 3 && errorKnown (l .error)) (eqb (l .status) paused || eqb (l .error) noError) (a .0) in
+    leb-true (l .status) 3 (both (leb (l .status) 3) (errorKnown (l .error)) (b .0) .0)
 
 with-setup : (l : Line) (s : setup.Setup) → FitLine l → setupFit s ≡ true → l .status ≡ stopped → FitLine (withSetup l s)
 unfolding statusFit busy
@@ -214,7 +222,7 @@ store-goes l ts f c s g =
 -- ---- every kind
 
 pub accepted-goes : (l : Line) (a : Settings) (ts : List ℤ) (f : Pages) (e : Event) (count : ℕ) → Given l ts f → Accepted l count a ts e → Goes l f e (accepted l a ts e)
-unfolding accepted book.commanded eventRanged eventAgrees readsRecord statusWrong nothingToCancel ran alarmed
+unfolding accepted book.commanded eventRanged eventAgrees readsRecord statusRefusal nothingToCancel ran alarmed
 accepted-goes l a ts f (Sample s) count g h =
     let m = sound-tells l count a ts (Sample s) (h .sound) in
     sample-sheets l ts f (Sample s) (sampled l a s) (sample-goes l a s (g .fit) (m .active) (in-range s (h .ranged))) (g .sheets) (g .back) (λ b. refl)
@@ -230,5 +238,5 @@ accepted-goes l a ts f ErrorReset count g h =
 accepted-goes l a ts f NoOperation count g h = command-goes l l ts f f NoOperation refl (g .fit) (g .sheets) (g .back) refl
 accepted-goes l a ts f (Setup s) count g h =
     command-goes l (withSetup l s) ts f f (Setup s) refl
-    (with-setup l s (g .fit) (and-intro (h .ranged) (h .agrees)) (eqb-true _ _ (not-false _ (sym (or-false (not (eqb (l .status) stopped))) ∙ h .status)))) (g .sheets) (g .back) refl
+    (with-setup l s (g .fit) (and-intro (h .ranged) (h .agrees)) (setup-stopped (l .status) s (status-known l (g .fit .status)) (h .status))) (g .sheets) (g .back) refl
 accepted-goes l a ts f (Store c s) count g h = store-goes l ts f c s g

@@ -26,7 +26,7 @@ use Rattle.line.specs.Fit.{statusFit}
 use Rattle.event.specs.Sample.{lastFit}
 use Rattle.item.specs.Item.{inHand, itemFit}
 use Rattle.undo.specs.Undo.{undoFit, noChance}
-use Rattle.refusal.specs.Rows.{lengthsWrong, readsRecord, readsTally, statusWrong, runUnsafe, runOccupied, nothingToCancel}
+use Rattle.refusal.specs.Rows.{lengthsWrong, readsRecord, readsTally, statusRefusal, runUnsafe, runOccupied, nothingToCancel}
 use Rattle.line.specs.Refusal.{memorySound, faultsOf, refusalOf}
 use Rattle.line.specs.Tallying.{Out, untallied, noted, recorded}
 use Rattle.line.specs.State.{activeOf}
@@ -233,7 +233,7 @@ never-eight : (l : Line) (count : ℕ) (a : Settings) (ts : List ℤ) (e : Event
 unfolding refusalOf
 never-eight l count a ts e h = not-eight (faultsOf l count a ts e) (rw h refl)
 
-no-refusal : (r : Reply) → isDone r ≡ true → refusalIn r ≡ 0
+pub no-refusal : (r : Reply) → isDone r ≡ true → refusalIn r ≡ 0
 no-refusal (Refused number input) h = absurd (subst T (sym h) tt)
 no-refusal (Done d) h = refl
 
@@ -247,7 +247,7 @@ refusal-shown l count a ts e =
     (λ _. refl)
 
 cancel-answer : (l : Line) (count : ℕ) (a : Settings) (ts : List ℤ) → memorySound l count a ts Cancel ≡ true → refusalOf l count a ts Cancel ≡ (if chanceOf (l .undo) then 0 else nothingNo)
-unfolding refusalOf eventRanged statusWrong eventAgrees runUnsafe runOccupied nothingToCancel
+unfolding refusalOf eventRanged statusRefusal eventAgrees runUnsafe runOccupied nothingToCancel
 cancel-answer l count a ts h = rw h (by (l .undo))
   where
     by : (u : Undo) → _≡_ {A = ℕ} (if noChance u then nothingNo else 0) (if chanceOf u then 0 else nothingNo)

@@ -1,3 +1,4 @@
 pub mod Run
 pub mod Claim
 pub mod Example
+pub mod StatusRefusals

@@ -1,6 +1,7 @@
 // Demand 3: no box is counted twice or lost, whatever list of events comes.
 ghost use Rattle.claim.specs.Claim.{Claim};
 ghost use Rattle.claim.specs.Example.{Example};
+ghost use Rattle.claim.specs.StatusRefusals.{StatusRefusals};
 
 // The claim over every list of events, from a fresh line and fresh memory. It says nothing of the code here: it is a
 // theorem on `stepOn`, which `line::Line::apply` is proved to be.
@@ -11,4 +12,9 @@ pub fn ledger()
 // The worked example of document 01, on the same definitions.
 pub fn worked_example()
     ensures { λ _. ⌜ Example ⌝ }
+{}
+
+// Why the status refuses an event: 3, 9 and 10 each exactly where 02 gives it, and a refusal alters nothing.
+pub fn status_refusals()
+    ensures { λ _. ⌜ StatusRefusals ⌝ }
 {}

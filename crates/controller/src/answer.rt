@@ -65,7 +65,7 @@ fn refusal_of_text(count: usize, tallies: &[i64]) -> u64
         memory: refusal::lengths_wrong(count as u64, tallies),
         form: true,
         value: false,
-        status: false,
+        status: 0,
         contradiction: false,
         safety: false,
         occupied: false,

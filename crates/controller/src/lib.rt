@@ -24,8 +24,8 @@
 // Whoever runs its events so, one after another, is after each of them where the claim over every list of events says.
 //
 // It refuses with the number of the first condition that holds: 8 memory of a wrong length or unfit, 2 a field out of range,
-// 3 the wrong status, 4 a contradiction, 5 a required safety input off (`input` says which), 6 run with a box on the scale,
-// 7 nothing to cancel.
+// then why the status does not allow the event: 3 the line is running, 9 it is in emergency, 10 it is paused; 4 a
+// contradiction, 5 a required safety input off (`input` says which), 6 run with a box on the scale, 7 nothing to cancel.
 //
 // `report` is a code's sheet, where its `number` is 0; the memories are only read. It refuses 8, memory, and 2, a code out
 // of range.

@@ -19,14 +19,15 @@ use Rattle.line.specs.Fit.{lineFit}
 use Rattle.undo.specs.Undo.{noChance}
 use Rattle.refusal.proofs.Lengths.{lengths-right}
 use Rattle.refusal.proofs.Numbers.{none-holds}
-use Rattle.refusal.specs.Rows.{lengthsWrong, readsRecord, readsTally, statusWrong, runUnsafe, runOccupied, nothingToCancel}
+use Rattle.refusal.proofs.Status.{status-passed}
+use Rattle.refusal.specs.Rows.{lengthsWrong, readsRecord, readsTally, statusRefusal, runUnsafe, runOccupied, nothingToCancel}
 use Rattle.line.specs.Refusal.{memorySound, inputOff, faultsOf, refusalOf}
 use Rattle.line.specs.declared.line.Line.{Line}
 
 pub record Accepted (l : Line) (count : ℕ) (a : Settings) (ts : List ℤ) (e : Event) : Type 0 where
   pub sound : memorySound l count a ts e ≡ true
   pub ranged : eventRanged e ≡ true
-  pub status : statusWrong (l .status) e ≡ false
+  pub status : statusRefusal (l .status) e ≡ 0
   pub agrees : eventAgrees e ≡ true
   pub safe : runUnsafe (inputOff l) e ≡ false
   pub free : runOccupied (l .status) (a .nearzero) (l .last .gross) e ≡ false
@@ -39,7 +40,7 @@ accepted-tells l count a ts e h =
     record {
       sound = not-false _ (n .memory);
       ranged = not-false _ (n .value);
-      status = n .status;
+      status = status-passed (l .status) e (n .status) (n .emergency) (n .paused);
       agrees = not-false _ (n .contradiction);
       safe = n .safety;
       free = n .occupied;

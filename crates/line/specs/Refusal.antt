@@ -7,7 +7,7 @@ use lib.IntN.{ℤ}
 use Rattle.laws.specs.Choice.{if_then_else_}
 use Rattle.mask.specs.Bits.{lowestOff}
 use Rattle.refusal.specs.Table.{safetyNo, table, firstHolding}
-use Rattle.refusal.specs.Rows.{lengthsWrong, readsRecord, readsTally, statusWrong, runUnsafe, runOccupied, nothingToCancel}
+use Rattle.refusal.specs.Rows.{lengthsWrong, readsRecord, readsTally, statusRefusal, runUnsafe, runOccupied, nothingToCancel}
 use Rattle.refusal.specs.declared.Faults.{Faults}
 use Rattle.settings.specs.Settings.{recordFit}
 use Rattle.settings.specs.declared.Settings.{Settings}
@@ -35,7 +35,7 @@ faultsOf l count a ts e =
       memory = not (memorySound l count a ts e);
       form = false;
       value = not (eventRanged e);
-      status = statusWrong (l .status) e;
+      status = statusRefusal (l .status) e;
       contradiction = not (eventAgrees e);
       safety = runUnsafe (inputOff l) e;
       occupied = runOccupied (l .status) (a .nearzero) (l .last .gross) e;

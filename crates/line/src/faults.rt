@@ -10,7 +10,7 @@ use refusal::reads_record;
 use refusal::reads_tally;
 use refusal::run_occupied;
 use refusal::run_unsafe;
-use refusal::status_wrong;
+use refusal::status_refusal;
 use settings::Settings;
 
 impl Line {
@@ -48,7 +48,7 @@ impl Line {
                 memory: !sound,
                 form: false,
                 value: !s.ranged(),
-                status: false,
+                status: 0,
                 contradiction: false,
                 safety: false,
                 occupied: false,
@@ -62,7 +62,7 @@ impl Line {
             memory: !sound,
             form: false,
             value: !e.ranged(),
-            status: status_wrong(self.status, e),
+            status: status_refusal(self.status, e),
             contradiction: !e.agrees(),
             safety: run_unsafe(self.input_off(), e),
             occupied: run_occupied(self.status, active.nearzero, last.gross, e),

@@ -2,6 +2,7 @@
 use Prim.Native.Nat.{ℕ}
 use mathlib.Core.Bool.{Bool}
 use mathlib.Core.List.{List, [], _∷_}
+use lib.Dec.{eqb}
 use Rattle.laws.specs.Choice.{if_then_else_}
 use Rattle.refusal.specs.declared.Faults.{Faults}
 
@@ -17,6 +18,13 @@ valueNo = 2
 
 abbrev pub statusNo : ℕ
 statusNo = 3
+
+-- 02, T-07: "New numbers: 9 emergency and 10 paused, both in the place of 3."
+abbrev pub emergencyNo : ℕ
+emergencyNo = 9
+
+abbrev pub pausedNo : ℕ
+pausedNo = 10
 
 abbrev pub contradictionNo : ℕ
 contradictionNo = 4
@@ -35,13 +43,15 @@ pub record Rule : Type 0 where
   pub number : ℕ
   pub holds : Bool
 
--- the table in its order
+-- the table in its order, with 02's two rows behind 3: the status condition answers its number
 abbrev pub table : Faults → List Rule
 table f =
     record { number = memoryNo; holds = f .memory }
     ∷ record { number = formNo; holds = f .form }
     ∷ record { number = valueNo; holds = f .value }
-    ∷ record { number = statusNo; holds = f .status }
+    ∷ record { number = statusNo; holds = eqb (f .status) statusNo }
+    ∷ record { number = emergencyNo; holds = eqb (f .status) emergencyNo }
+    ∷ record { number = pausedNo; holds = eqb (f .status) pausedNo }
     ∷ record { number = contradictionNo; holds = f .contradiction }
     ∷ record { number = safetyNo; holds = f .safety }
     ∷ record { number = occupiedNo; holds = f .occupied }

@@ -10,7 +10,7 @@ pub use rows::reads_record;
 pub use rows::reads_tally;
 pub use rows::run_occupied;
 pub use rows::run_unsafe;
-pub use rows::status_wrong;
+pub use rows::status_refusal;
 
 // The numbers of the table, in its order.
 pub const MEMORY: u64 = 8;
@@ -20,6 +20,10 @@ pub const FORM: u64 = 1;
 pub const VALUE: u64 = 2;
 
 pub const STATUS: u64 = 3;
+
+pub const EMERGENCY: u64 = 9;
+
+pub const PAUSED: u64 = 10;
 
 pub const CONTRADICTION: u64 = 4;
 
@@ -34,7 +38,8 @@ pub struct Faults {
     pub memory: bool,
     pub form: bool,
     pub value: bool,
-    pub status: bool,
+    // STATUS, EMERGENCY, PAUSED, or 0 if none of them
+    pub status: u64,
     pub contradiction: bool,
     pub safety: bool,
     pub occupied: bool,
@@ -46,6 +51,9 @@ impl Faults {
     pub fn number(self) -> u64
         ensures { λ r. ⌜ r ≡ firstHolding (table self) ⌝ }
     {
+        let running = self.status == STATUS;
+        let emergency = self.status == EMERGENCY;
+        let paused = self.status == PAUSED;
         if self.memory {
             return MEMORY;
         }
@@ -55,8 +63,14 @@ impl Faults {
         if self.value {
             return VALUE;
         }
-        if self.status {
+        if running {
             return STATUS;
+        }
+        if emergency {
+            return EMERGENCY;
+        }
+        if paused {
+            return PAUSED;
         }
         if self.contradiction {
             return CONTRADICTION;

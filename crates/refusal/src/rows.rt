@@ -1,6 +1,9 @@
 // When the conditions of the table hold, as far as that is decided without the line's record.
 ghost use mathlib.Core.Path.{_≡_};
-ghost use Rattle.refusal.specs.Rows.{lengthsWrong, readsRecord, readsTally, statusWrong, runUnsafe, runOccupied, nothingToCancel};
+ghost use Rattle.refusal.specs.Rows.{lengthsWrong, readsRecord, readsTally, statusRefusal, runUnsafe, runOccupied, nothingToCancel};
+use crate::EMERGENCY;
+use crate::PAUSED;
+use crate::STATUS;
 use event::Event;
 
 // 8 memory: not a hundred records, or tallies of a wrong length.
@@ -25,17 +28,23 @@ pub fn reads_tally(e: Event) -> bool
     (kind == Event::SAMPLE) | (kind == Event::CANCEL)
 }
 
-// 3 status
-pub fn status_wrong(status: u64, e: Event) -> bool
-    ensures { λ r. ⌜ r ≡ statusWrong status e ⌝ }
+// 3 status, 9 emergency or 10 paused: why the status refuses the event; 0 if it does not.
+pub fn status_refusal(status: u64, e: Event) -> u64
+    ensures { λ r. ⌜ r ≡ statusRefusal status e ⌝ }
 {
     let kind = e.kind();
-    let running = status == status::RUNNING;
-    let emergency = status == status::EMERGENCY;
-    ((kind == Event::RUN) & (running | emergency))
-        | ((kind == Event::STOP) & emergency)
-        | ((kind == Event::SETUP) & (status != status::STOPPED))
-        | ((kind == Event::STORE) & running)
+    let run = kind == Event::RUN;
+    let setup = kind == Event::SETUP;
+    if (run | setup | (kind == Event::STORE)) & (status == status::RUNNING) {
+        return STATUS;
+    }
+    if (run | (kind == Event::STOP) | setup) & (status == status::EMERGENCY) {
+        return EMERGENCY;
+    }
+    if setup & (status == status::PAUSED) {
+        return PAUSED;
+    }
+    0
 }
 
 // 5 safety: `input` is the lowest required input that is off in the last sample, 0 if none is.

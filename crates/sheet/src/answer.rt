@@ -34,7 +34,7 @@ fn report_refusal(count: u64, own: Settings, tallies: &[i64], code: u64) -> u64
         memory: memory_wrong(count, own, tallies, code),
         form: false,
         value: !is_code(code),
-        status: false,
+        status: 0,
         contradiction: false,
         safety: false,
         occupied: false,

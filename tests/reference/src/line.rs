@@ -146,8 +146,10 @@ impl Line {
     }
 
     fn run(&mut self, memory: &Memory) -> Result<Done, Refusal> {
-        if matches!(self.status, Status::Running | Status::Emergency) {
-            return Err(Refusal::STATUS);
+        match self.status {
+            Status::Running => return Err(Refusal::STATUS),
+            Status::Emergency => return Err(Refusal::EMERGENCY),
+            Status::Stopped | Status::Paused => {}
         }
         let off = self.setup.need & !self.safety;
         if off != 0 {
@@ -165,7 +167,7 @@ impl Line {
     fn stop(&mut self) -> Result<Done, Refusal> {
         let busy = self.item != Item::None || self.sorter.is_busy();
         match self.status {
-            Status::Emergency => Err(Refusal::STATUS),
+            Status::Emergency => Err(Refusal::EMERGENCY),
             Status::Running if busy => {
                 self.pause(0);
                 Ok(Done::default())
@@ -217,8 +219,11 @@ impl Line {
         if !setup.in_range() {
             return Err(Refusal::VALUE);
         }
-        if self.status != Status::Stopped {
-            return Err(Refusal::STATUS);
+        match self.status {
+            Status::Running => return Err(Refusal::STATUS),
+            Status::Emergency => return Err(Refusal::EMERGENCY),
+            Status::Paused => return Err(Refusal::PAUSED),
+            Status::Stopped => {}
         }
         if setup.contradicts() {
             return Err(Refusal::CONTRADICTION);

@@ -23,9 +23,10 @@ pub fn reply(out: &mut Vec<u8>, reply: &Reply) {
 }
 
 pub fn refusal(out: &mut Vec<u8>, refusal: &Refusal) {
-    let mut text = *b"refused=0 input=0\n";
-    text[8] += refusal.number;
-    text[16] += refusal.input;
+    out.extend_from_slice(b"refused=");
+    number(out, i64::from(refusal.number));
+    let mut text = *b" input=0\n";
+    text[7] += refusal.input;
     out.extend_from_slice(&text);
 }
 

@@ -11,6 +11,8 @@ impl Refusal {
     pub const FORM: Refusal = Refusal::numbered(1);
     pub const VALUE: Refusal = Refusal::numbered(2);
     pub const STATUS: Refusal = Refusal::numbered(3);
+    pub const EMERGENCY: Refusal = Refusal::numbered(9);
+    pub const PAUSED: Refusal = Refusal::numbered(10);
     pub const CONTRADICTION: Refusal = Refusal::numbered(4);
     pub const OCCUPIED: Refusal = Refusal::numbered(6);
     pub const NOTHING: Refusal = Refusal::numbered(7);

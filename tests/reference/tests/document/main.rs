@@ -1,4 +1,4 @@
-//! Document 01 as tests: the worked example, the bench marks, the readings of
+//! Documents 01 and 02 as tests: the worked example, the bench marks, the readings of
 //! its places with two senses, the mistakes to shut out, and demand 3's book.
 
 mod bench;
@@ -10,4 +10,5 @@ mod operation;
 mod readings_line;
 mod readings_sheet;
 mod readings_text;
+mod requests;
 mod stream;

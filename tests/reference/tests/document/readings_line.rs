@@ -260,9 +260,9 @@ fn emergency_ends_with_the_next_sample_that_has_emergency_0() {
     let mut bench = Bench::running("");
     bench.check("CSTP", "status=3 conveyor=0");
     bench.check("CSTP", "status=3");
-    bench.check("CSTD", "refused=3");
-    bench.check("COPR", "refused=3");
-    bench.check(&setup(""), "refused=3");
+    bench.check("CSTD", "refused=9");
+    bench.check("COPR", "refused=9");
+    bench.check(&setup(""), "refused=9");
     bench.check(&store(""), "status=3");
     bench.tick("emergency=1", "status=3");
     bench.tick("", "status=0");
@@ -278,7 +278,7 @@ fn setup_and_store_by_status() {
     bench.check(&store(""), "refused=3");
     bench.tick("sensor=1", "detected=1");
     bench.pause();
-    bench.check(&setup(""), "refused=3");
+    bench.check(&setup(""), "refused=10");
     bench.check(&store(""), "status=2");
 }
 

@@ -27,7 +27,13 @@ returns-8 : tie.Need-returns-8
 returns-8 c = simp (c .if8 .taken, c .before .if7 .left, c .before .before .if6 .left, c .before .before .before .if5 .left, c .before .before .before .before .if4 .left, c .before .before .before .before .before .if3 .left, c .before .before .before .before .before .before .if2 .left, c .before .before .before .before .before .before .before .if1 .left)
 
 returns-9 : tie.Need-returns-9
-returns-9 c = simp (c .if8 .left, c .before .if7 .left, c .before .before .if6 .left, c .before .before .before .if5 .left, c .before .before .before .before .if4 .left, c .before .before .before .before .before .if3 .left, c .before .before .before .before .before .before .if2 .left, c .before .before .before .before .before .before .before .if1 .left)
+returns-9 c = simp (c .if9 .taken, c .before .if8 .left, c .before .before .if7 .left, c .before .before .before .if6 .left, c .before .before .before .before .if5 .left, c .before .before .before .before .before .if4 .left, c .before .before .before .before .before .before .if3 .left, c .before .before .before .before .before .before .before .if2 .left, c .before .before .before .before .before .before .before .before .if1 .left)
+
+returns-10 : tie.Need-returns-10
+returns-10 c = simp (c .if10 .taken, c .before .if9 .left, c .before .before .if8 .left, c .before .before .before .if7 .left, c .before .before .before .before .if6 .left, c .before .before .before .before .before .if5 .left, c .before .before .before .before .before .before .if4 .left, c .before .before .before .before .before .before .before .if3 .left, c .before .before .before .before .before .before .before .before .if2 .left, c .before .before .before .before .before .before .before .before .before .if1 .left)
+
+returns-11 : tie.Need-returns-11
+returns-11 c = simp (c .if10 .left, c .before .if9 .left, c .before .before .if8 .left, c .before .before .before .if7 .left, c .before .before .before .before .if6 .left, c .before .before .before .before .before .if5 .left, c .before .before .before .before .before .before .if4 .left, c .before .before .before .before .before .before .before .if3 .left, c .before .before .before .before .before .before .before .before .if2 .left, c .before .before .before .before .before .before .before .before .before .if1 .left)
 
 pub number-spec : {M : Type 1} → statement M
 number-spec =
@@ -41,4 +47,6 @@ number-spec =
     returns-6
     returns-7
     returns-8
-    returns-9)
+    returns-9
+    returns-10
+    returns-11)
