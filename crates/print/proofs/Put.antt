@@ -73,9 +73,13 @@ wrote-then {b} {b′} {b″} {at} {r} {q} {m} {n} {s} {t} v w =
       short = rw length-append (omega (arith, v .short, w .short));
     }
 
+-- in any room that the text has
+pub wrote-within : {b b′ : List ℕ} {at r m n : ℕ} {s : List ℕ} → length s ≤ n → Wrote b at s m b′ r → Wrote b at s n b′ r
+wrote-within h w = record { bytes = w .bytes; place = w .place; fits = w .fits; short = h }
+
 -- with more room
 pub wrote-in : {b b′ : List ℕ} {at r m n : ℕ} {s : List ℕ} → m ≤ n → Wrote b at s m b′ r → Wrote b at s n b′ r
-wrote-in {b} {b′} {at} {r} {m} {n} {s} h w = record { bytes = w .bytes; place = w .place; fits = w .fits; short = omega (arith, w .short) }
+wrote-in {b} {b′} {at} {r} {m} {n} {s} h w = wrote-within (omega (arith, w .short)) w
 
 pub wrote-as : {b b′ : List ℕ} {at r m : ℕ} {s t : List ℕ} → s ≡ t → Wrote b at s m b′ r → Wrote b at t m b′ r
 wrote-as {b} {b′} {at} {r} {m} e w = subst (λ (l : List ℕ). Wrote b at l m b′ r) e w

@@ -1,11 +1,12 @@
 -- 01, "Text lines": a sheet, "one field a line".
-use Prim.Native.Nat.{ℕ}
+use Prim.Native.Nat.{ℕ, _/_, _%_}
 use mathlib.Core.List.{List, [], _∷_, _++_}
 use Rattle.weight.specs.declared.Figure.{Figure}
 use Rattle.weight.specs.declared.Figure.the-variants.{None, Of}
 use Rattle.spread.specs.declared.Spread.{Spread}
 use Rattle.spread.specs.declared.Spread.the-variants.{None as NoSpread, Of as SpreadOf}
 use Rattle.sheet.specs.declared.sheet.Sheet.{Sheet}
+use Rattle.decimal.specs.Bytes.{bytes}
 use Rattle.decimal.specs.Number.{decimal, numberText}
 use Rattle.print.specs.Text.{lineEnd, none, field, joined}
 
@@ -13,9 +14,13 @@ abbrev pub figureText : Figure → List ℕ
 figureText None = none
 figureText (Of v) = numberText v
 
+-- T-06: "The report prints s as tenths with one decimal, as sd=1.5."
+abbrev pub tenthsText : ℕ → List ℕ
+tenthsText s = decimal (s / 10) ++ (bytes "." ++ decimal (s % 10))
+
 abbrev pub spreadText : Spread → List ℕ
 spreadText NoSpread = none
-spreadText (SpreadOf n) = decimal n
+spreadText (SpreadOf s) = tenthsText s
 
 abbrev pub totals : ℕ → Sheet → List (List ℕ)
 totals code s = field "code" (decimal code) ∷ field "total" (decimal (s .total)) ∷ field "ng" (decimal (s .ng)) ∷ []

@@ -1,10 +1,11 @@
 // A field: its key, given with what separates it from the field before and with its `=`, and its value.
+ghost use mathlib.Core.List.{_++_};
 ghost use Prim.Native.Nat.{_+_, _≤_};
 ghost use lib.ListN.{length};
 ghost use Rattle.decimal.specs.Number.{decimal, numberText};
 ghost use Rattle.print.specs.Text.{none};
-ghost use Rattle.print.specs.Sheet.{figureText, spreadText};
-ghost use Rattle.print.specs.Steps.{Field, valueRoom};
+ghost use Rattle.print.specs.Sheet.{figureText, tenthsText, spreadText};
+ghost use Rattle.print.specs.Steps.{Wrote, Field, valueRoom, spreadRoom};
 use crate::buffer::put;
 use crate::buffer::put_decimal;
 use crate::buffer::put_signed;
@@ -37,14 +38,24 @@ pub(crate) fn put_figure(out: &mut [u8], at: usize, key: &[u8], f: Figure) -> us
     }
 }
 
-pub(crate) fn put_spread(out: &mut [u8], at: usize, key: &[u8], s: Spread) -> usize
-    requires { ⌜ at + length (now key) + valueRoom ≤ length (now out) ⌝ }
-    ensures { λ r. ⌜ Field (now (out .entry)) at (now (key .entry)) (spreadText s) (now (out .exit)) r ⌝ }
+pub(crate) fn put_spread(out: &mut [u8], at: usize, key: &[u8], spread: Spread) -> usize
+    requires { ⌜ at + length (now key) + spreadRoom ≤ length (now out) ⌝ }
+    ensures { λ r. ⌜ Wrote (now (out .entry)) at (now (key .entry) ++ spreadText spread) (length (now (key .entry)) + spreadRoom) (now (out .exit)) r ⌝ }
 {
-    match s {
+    match spread {
         Spread::None => put_none(out, at, key),
-        Spread::Of(n) => put_count(out, at, key, n),
+        Spread::Of(s) => put_tenths(out, at, key, s),
     }
+}
+
+// s tenths, with one decimal.
+fn put_tenths(out: &mut [u8], at: usize, key: &[u8], s: u64) -> usize
+    requires { ⌜ at + length (now key) + spreadRoom ≤ length (now out) ⌝ }
+    ensures { λ r. ⌜ Wrote (now (out .entry)) at (now (key .entry) ++ tenthsText s) (length (now (key .entry)) + spreadRoom) (now (out .exit)) r ⌝ }
+{
+    let point = put_count(out, at, key, s / 10);
+    let tenth = put(out, point, b".");
+    put_decimal(out, tenth, s % 10)
 }
 
 pub(crate) fn put_none(out: &mut [u8], at: usize, key: &[u8]) -> usize

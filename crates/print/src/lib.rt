@@ -9,5 +9,5 @@ pub use report::sheet_lines;
 
 // The room that the line of a reply is written to; none has more than 252 bytes.
 pub const REPLY_ROOM: usize = 256;
-// The room that a sheet is written to; none has more than 466 bytes.
+// The room that a sheet is written to; none has more than 468 bytes.
 pub const SHEET_ROOM: usize = 1024;

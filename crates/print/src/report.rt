@@ -76,8 +76,8 @@ fn put_weights(out: &mut [u8], at: usize, s: Sheet) -> usize
 }
 
 fn put_spreads(out: &mut [u8], at: usize, s: Sheet) -> usize
-    requires { ⌜ at + 49 ≤ length (now out) ⌝ }
-    ensures { λ r. ⌜ Wrote (now (out .entry)) at (ahead lineEnd (spreads s)) 49 (now (out .exit)) r ⌝ }
+    requires { ⌜ at + 51 ≤ length (now out) ⌝ }
+    ensures { λ r. ⌜ Wrote (now (out .entry)) at (ahead lineEnd (spreads s)) 51 (now (out .exit)) r ⌝ }
 {
     let sd = s.sd;
     let sdp = s.sdp;

@@ -1,4 +1,4 @@
--- 01, "Bench marks", as one theorem.
+-- 01, "Bench marks", as one theorem, the spreads by request T-06 of 02.
 use mathlib.Core.Path.{_≡_}
 use mathlib.Core.List.{List, [], _∷_, map}
 use lib.IntN.{ℤ, pos, negsuc}
@@ -31,6 +31,6 @@ pub record Bench : Type 0 where
   pub grades : map (gradeOf example) nets ≡ 1 ∷ 2 ∷ 2 ∷ 3 ∷ 3 ∷ 4 ∷ 4 ∷ 5 ∷ []
   -- "sums 2007 and -2007 over 2 give 1004 and -1004"
   pub means : map (λ (s : ℤ). rounded s 2) (pos 2007 ∷ negsuc 2006 ∷ []) ≡ pos 1004 ∷ negsuc 1003 ∷ []
-  -- "weights 1, 2, 4 give sd 1, sdp 1"
-  pub sd : sheetOf (tallied weights) (example .target) .sd ≡ Of 1
-  pub sdp : sheetOf (tallied weights) (example .target) .sdp ≡ Of 1
+  -- T-06: "Weights 1, 2, 4 now give 1.5 and 1.2."
+  pub sd : sheetOf (tallied weights) (example .target) .sd ≡ Of 15
+  pub sdp : sheetOf (tallied weights) (example .target) .sdp ≡ Of 12

@@ -7,7 +7,7 @@ pub fn always_apart()
     ensures { λ _. ⌜ Apart ⌝ }
 {}
 
-// 01's bench marks.
+// 01's bench marks, with T-06's spreads.
 pub fn bench()
     ensures { λ _. ⌜ Bench ⌝ }
 {}

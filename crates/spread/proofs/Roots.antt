@@ -3,11 +3,11 @@ use mathlib.Core.Path.{_≡_}
 use mathlib.Core.Logic.{⊎-elim}
 use Prim.Native.Nat.{ℕ, zero, suc, _+_, _*_, _≤_, _<_}
 use native.Mathlib.Nat.{mul-le-mul, mul-le-mul-right, le-trans, le-antisymm, le-of-suc-le-suc, lt-of-not-le, not-le-of-lt, lt-of-lt-of-le, eq-or-lt-of-le, eq-zero-or-pos, le-mul-of-pos-right}
-use native.Mathlib.Decide.{decLe}
 use native.Mathlib.Numerals.{add-one}
 use native.Mathlib.Omega.{arith}
-use borrow.Author.Tests.{le-leb, lt-leb}
-use Rattle.spread.specs.Root.{Largest, rootFrom, root}
+use borrow.Author.Tests.{leb-true, leb-false}
+use Rattle.laws.proofs.Tests.{if-ind}
+use Rattle.spread.specs.Root.{Largest, fitting, rootFrom, root}
 
 below : (k d x t : ℕ) → (suc k * suc k * d ≤ x → ⊥) → t * t * d ≤ x → t ≤ suc k → t ≤ k
 below k d x t f g h = ⊎-elim (λ e. absurd (f (rw e at g))) (λ l. le-of-suc-le-suc l) (eq-or-lt-of-le h)
@@ -17,10 +17,9 @@ from-largest : (k d x : ℕ) → ((t : ℕ) → t * t * d ≤ x → t ≤ k) →
 unfolding rootFrom
 from-largest zero d x none = record { fits = omega arith; top = none }
 from-largest (suc k) d x none =
-    elim (decLe (suc k * suc k * d) x) [
-      | yes h ↦ rw (le-leb _ _ h) (record { fits = h; top = none })
-      | no f ↦ rw (lt-leb _ _ (lt-of-not-le f)) (from-largest k d x (λ t g. below k d x t f g (none t g)))
-    ]
+    if-ind (Largest d x) (fitting d x (suc k)) (suc k) (rootFrom k d x)
+    (λ e. record { fits = leb-true _ _ e; top = none })
+    (λ e. from-largest k d x (λ t g. below k d x t (not-le-of-lt (leb-false _ _ e)) g (none t g)))
 
 le-of-fits : (d x t : ℕ) → 0 < d → t * t * d ≤ x → t ≤ x
 le-of-fits d x t p h =

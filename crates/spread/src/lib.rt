@@ -1,5 +1,5 @@
-// The spread of a tally, exactly: document 01, "The sheet's figures". Below, n is the number of its graded verdicts, q
-// their sum of squares and s the size of their sum.
+// The spread of a tally in tenths of a division, exactly: document 01, "The sheet's figures", as request T-06 of 02 changes
+// it. Below, n is the number of its graded verdicts, q their sum of squares and s the size of their sum.
 ghost use mathlib.Core.Path.{_≡_};
 ghost use mathlib.Core.Bool.{true};
 ghost use Prim.Native.Nat.{_+_, _*_, _≤_, _<_};
@@ -17,12 +17,12 @@ use weight::size;
 use wide::Wide;
 
 // How often n * q - s * s is taken: `times` of specs/Figures.antt.
-const TIMES: u64 = 1;
+const TIMES: u64 = 100;
 
-// A spread, or none where a tally has none.
+// A spread in tenths of a division, or none where a tally has none.
 pub enum Spread {
     None,
-    Of(u64),
+    Of(u64), // tenths, below 15,000,000 for every tally
 }
 
 // Fit for a report: the spreads are roots of n * q - s * s, which must not be below 0.
@@ -81,8 +81,8 @@ fn apart(t: Tally) -> Wide
         .by(TIMES)
 }
 
-// The largest r that fits in x, by halving a bracket around it. No root of a fit tally reaches the bracket's first end,
-// with TIMES up to 100: r * r is at most 100 * 2 * 10^12.
+// The largest r that fits in x, by halving a bracket around it. No root of a fit tally reaches the bracket's first end:
+// r * r is at most TIMES * 2 * 10^12.
 fn root(n: u64, m: u64, x: Wide) -> u64
     requires { ⌜ (n ≤ tallyLimit) × (m ≤ n) × Digits x × (value x < 15000000 * 15000000 * (n * m)) ⌝ }
     ensures { λ r. ⌜ Largest (n * m) (value x) r ⌝ }

@@ -24,10 +24,10 @@ use Rattle.numeral.proofs.Heads.{digits-end, digit-bounds, four-bounds}
 digit-yes : (d : ℕ) → d < 10 → isDigit (48 + d) ≡ true
 digit-yes d h = simp (le-leb 48 (48 + d) (omega arith), le-leb (48 + d) 57 (omega arith))
 
-digits-one : (below : Bool) (n d : ℕ) (t : List ℕ) → d < 10 → digits below n ((48 + d) ∷ t) ≡ digits below (n * 10 + d) t
+pub digits-one : (below : Bool) (n d : ℕ) (t : List ℕ) → d < 10 → digits below n ((48 + d) ∷ t) ≡ digits below (n * 10 + d) t
 digits-one below n d t h = rw (digit-yes d h) (ap (λ (x : ℕ). digits below (n * 10 + x) t) (omega arith))
 
-digits-of-text : (below : Bool) (n : ℕ) (t : List ℕ) → digits below 0 (decimal n ++ t) ≡ digits below n t
+pub digits-of-text : (below : Bool) (n : ℕ) (t : List ℕ) → digits below 0 (decimal n ++ t) ≡ digits below n t
 digits-of-text below n =
     by-digits (λ (m : ℕ) (l : List ℕ). (t : List ℕ) → digits below 0 (l ++ t) ≡ digits below m t)
     (λ m lt t. digits-one below 0 m t lt ∙ ap (λ (x : ℕ). digits below x t) (omega arith))

@@ -1,4 +1,5 @@
 pub mod OneText
 pub mod Reading
 pub mod Printing
+pub mod Tenths
 pub mod Claim

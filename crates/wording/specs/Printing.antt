@@ -1,4 +1,4 @@
--- 01, "Text lines": the worked example, and what it prints.
+-- 01, "Text lines": the worked example, and what it prints; sdp with one decimal by request T-06 of 02.
 use Prim.Native.Nat.{ℕ}
 use mathlib.Core.Path.{_≡_}
 use mathlib.Core.List.{List, [], _∷_, _++_}
@@ -33,7 +33,7 @@ exampleOutput =
     ∷ "status=1 busy=0 conveyor=1 sorter=0 detected=0 outcome=3 net=1004 tallied=1 error=none"
     ∷ "refused=2 input=0"
     ∷ "code=0" ∷ "total=1" ∷ "ng=0" ∷ "lolo=0" ∷ "lo=0" ∷ "ok=1" ∷ "hi=0" ∷ "hihi=0" ∷ "foreign=0" ∷ "double=0" ∷ "crash=0"
-    ∷ "max=1004" ∷ "min=1004" ∷ "sum=1004" ∷ "mean=1004" ∷ "deviation=4" ∷ "sd=none" ∷ "sdp=0"
+    ∷ "max=1004" ∷ "min=1004" ∷ "sum=1004" ∷ "mean=1004" ∷ "deviation=4" ∷ "sd=none" ∷ "sdp=0.0"
     ∷ []
 
 abbrev pub Printing : Type 0

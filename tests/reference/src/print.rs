@@ -44,14 +44,27 @@ pub fn sheet(out: &mut Vec<u8>, sheet: &Sheet) {
     field(out, "sum", Some(sheet.sum));
     field(out, "mean", sheet.mean);
     field(out, "deviation", sheet.deviation);
-    field(out, "sd", sheet.sd);
-    field(out, "sdp", sheet.sdp);
+    tenths(out, "sd", sheet.sd);
+    tenths(out, "sdp", sheet.sdp);
 }
 
 fn field(out: &mut Vec<u8>, name: &str, value: Option<i64>) {
     out.extend_from_slice(name.as_bytes());
     out.push(b'=');
     number_or_none(out, value);
+    out.push(b'\n');
+}
+
+/// A field whose value is in tenths, with one decimal.
+fn tenths(out: &mut Vec<u8>, name: &str, value: Option<i64>) {
+    let Some(value) = value else {
+        return field(out, name, None);
+    };
+    out.extend_from_slice(name.as_bytes());
+    out.push(b'=');
+    number(out, value / 10);
+    out.push(b'.');
+    number(out, value % 10);
     out.push(b'\n');
 }
 

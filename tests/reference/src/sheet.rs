@@ -13,7 +13,9 @@ pub struct Sheet {
     pub sum: i64,
     pub mean: Option<i64>,
     pub deviation: Option<i64>,
+    /// In tenths of a division.
     pub sd: Option<i64>,
+    /// In tenths of a division.
     pub sdp: Option<i64>,
 }
 
@@ -38,11 +40,11 @@ impl Sheet {
     }
 }
 
-/// The largest whole s with s²·divisor ≤ n·Q - S². The products do not fit 64 bits.
+/// The largest whole s with s²·divisor ≤ 100·(n·Q - S²). The products do not fit 64 bits.
 fn spread(tally: &Tally, divisor: i64) -> i64 {
     let (n, sum, squares) = (tally.number as i128, tally.sum as i128, tally.squares as i128);
     // Whole s: s²·divisor ≤ v exactly when s² ≤ v / divisor rounded down.
-    root(((n * squares - sum * sum) / divisor as i128) as u128) as i64
+    root((100 * (n * squares - sum * sum) / divisor as i128) as u128) as i64
 }
 
 /// The largest whole s with s² ≤ value, by Newton's steps from above.

@@ -40,5 +40,5 @@ fn spread_of_1_2_4() {
     for weight in [1, 2, 4] {
         bench.weigh(weight, "outcome=5");
     }
-    bench.check("report=0", "sum=7 mean=2 deviation=2 sd=1 sdp=1 max=4 min=1");
+    bench.check("report=0", "sum=7 mean=2 deviation=2 sd=1.5 sdp=1.2 max=4 min=1");
 }

@@ -1,4 +1,4 @@
-//! The worked example, byte for byte.
+//! The worked example, byte for byte, sdp as T-06 prints it.
 
 use reference::stream::serve;
 
@@ -38,7 +38,7 @@ sum=1004
 mean=1004
 deviation=4
 sd=none
-sdp=0
+sdp=0.0
 ";
 
 #[test]

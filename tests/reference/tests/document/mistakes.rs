@@ -19,7 +19,7 @@ fn a_cancel_puts_back_the_old_largest() {
     bench.weigh(1200, "outcome=5");
     bench.check("report=0", "total=2 max=1200 min=1000 sum=2200");
     bench.check("CCAC", "status=1 outcome=0 tallied=0");
-    bench.check("report=0", "total=1 hihi=0 max=1000 min=1000 sum=1000 sdp=0");
+    bench.check("report=0", "total=1 hihi=0 max=1000 min=1000 sum=1000 sdp=0.0");
 }
 
 #[test]

@@ -1,6 +1,9 @@
 //! The landed change requests of document 02.
 
-use reference::tally::nearest;
+use reference::print;
+use reference::sheet::Sheet;
+use reference::tally::{nearest, Tally};
+use reference::verdict::Verdict;
 
 use crate::bench::{setup, store, Bench};
 
@@ -72,6 +75,70 @@ fn worked_means_of_step_6() {
         }
         bench.tick(&format!("gross={last}"), wanted);
     }
+}
+
+/// T-06: the largest whole tenth that fits, not the nearest: weights, and the sheet's sd and sdp.
+const SPREADS: [(&[i64], &str); 12] = [
+    (&[1, 2, 4], "sd=1.5 sdp=1.2"),
+    (&[1000], "sd=none sdp=0.0"),
+    (&[1000, 1000], "sd=0.0 sdp=0.0"),
+    (&[1000, 1001], "sd=0.7 sdp=0.5"),
+    // 168.9985.., and half of 239
+    (&[1000, 1239], "sd=168.9 sdp=119.5"),
+    // 408.0004.., and half of 577
+    (&[1000, 1577], "sd=408.0 sdp=288.5"),
+    // 984.9997.., and half of 1393
+    (&[1000, 2393], "sd=984.9 sdp=696.5"),
+    (&[1000, 1001, 1002], "sd=1.0 sdp=0.8"),
+    (&[1000, 1000, 1000, 1000, 1003], "sd=1.3 sdp=1.2"),
+    // the root of 2/8 and of 18/8
+    (&[999, 1000, 1000, 1000, 1000, 1000, 1000, 1000, 1001], "sd=0.5 sdp=0.4"),
+    (&[997, 1000, 1000, 1000, 1000, 1000, 1000, 1000, 1003], "sd=1.5 sdp=1.4"),
+    // the root of 81/100
+    (&[1000, 1000, 1000, 1000, 1000, 1000, 1000, 1000, 1000, 1003], "sd=0.9 sdp=0.9"),
+];
+
+#[test]
+fn spread_in_tenths() {
+    let mut bench = Bench::stopped("");
+    bench.check(&store("nearzero=0"), "status=0");
+    bench.check("COPR", "status=1");
+    for (weights, wanted) in SPREADS {
+        for weight in weights {
+            bench.weigh(*weight, "tallied=1");
+        }
+        bench.check("report=0", wanted);
+        bench.check("CETL", "status=1");
+    }
+}
+
+/// T-06 at the limit: 999,999 boxes, all of 999,999, then half of them of -999,998.
+#[test]
+fn spread_of_a_full_sheet() {
+    for (boxes, wanted) in [
+        ((999_999, 0), "sum=999998000001 sd=0.0 sdp=0.0"),
+        ((500_000, 499_999), "sum=1499998 sd=999998.9 sdp=999998.4"),
+    ] {
+        let tally = full(boxes);
+        let mut out = Vec::new();
+        print::sheet(&mut out, &Sheet::of(0, &tally, 0));
+        let text = String::from_utf8(out).expect("answers are ASCII");
+        for field in wanted.split(' ') {
+            assert!(text.lines().any(|line| line == field), "wanted {field}, got {text}");
+        }
+    }
+}
+
+/// The tally of so many boxes of 999,999 and of -999,998.
+fn full((heavy, light): (i64, i64)) -> Tally {
+    let mut tally = Tally::default();
+    for _ in 0..heavy {
+        assert!(tally.add(Verdict::HiHi, 999_999));
+    }
+    for _ in 0..light {
+        assert!(tally.add(Verdict::LoLo, -999_998));
+    }
+    tally
 }
 
 /// T-07: 3 while running, 9 in emergency, 10 for a setup while paused; 2 comes before them, 4, 5 and 6 behind.
