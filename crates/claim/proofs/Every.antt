@@ -15,7 +15,8 @@ use Rattle.laws.proofs.Tests.{both, and-intro, if-ind, by-cases}
 use Rattle.settings.specs.Settings.{blank, recordFit, recordRanged, limitsOrdered, settingsLength}
 use Rattle.settings.specs.declared.Settings.{Settings}
 use Rattle.device.specs.Sensor.{sensorFit}
-use Rattle.device.proofs.Keeps.{off-fit, off-idle, none-fit}
+use Rattle.device.proofs.Keeps.{off-fit, off-idle}
+use Rattle.detector.proofs.Keeps.{none-fit}
 use Rattle.event.specs.Setup.{setupRanged, edgeAgrees}
 use Rattle.event.specs.Event.{eventRanged, eventAgrees}
 use Rattle.event.specs.declared.Event.{Event}

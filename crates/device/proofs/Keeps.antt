@@ -1,6 +1,6 @@
--- What a tick keeps: times stay from 0 to 9,999, levels 0 or 1, the sorter and the detector fit. Assumes nothing.
+-- What a tick keeps: times stay from 0 to 9,999, levels 0 or 1, the sorter fit. Assumes nothing.
 use mathlib.Core.Path.{_≡_, refl}
-use mathlib.Core.Bool.{Bool, true, false, _&&_, not}
+use mathlib.Core.Bool.{true, false}
 use mathlib.Core.List.{[]}
 use Prim.Native.Nat.{ℕ, _+_, _≤_, max}
 use native.Mathlib.Omega.{arith}
@@ -14,10 +14,8 @@ use Rattle.queue.specs.Queue.{waitsOf, laid, waiting, isEmpty, oneEnds, queueFi
 use Rattle.queue.proofs.Keeps.{laid-fit, queue-ticked-fit, joined-fit}
 use Rattle.device.specs.Sensor.{settled, sensorFit}
 use Rattle.device.specs.Sorter.{sorting, sorterTicked, queued, sorterOff, sorterFit}
-use Rattle.device.specs.Foreign.{due, delayFallen, started, signalled, foreignTicked, flagUsed, noSignal, foreignFit}
 use Rattle.device.specs.declared.sensor.Sensor.{Sensor}
 use Rattle.device.specs.declared.sorter.Sorter.{Sorter}
-use Rattle.device.specs.declared.foreign.Foreign.{Foreign}
 
 -- ---- the sensor
 
@@ -55,29 +53,3 @@ off-fit = and-intro (laid-fit [] (omega arith) refl) refl
 pub off-idle : sorting sorterOff ≡ false
 unfolding sorting sorterOff isEmpty waiting waitsOf laid
 off-idle = refl
-
--- ---- the foreign detector
-
-fallen-fit : (f : Foreign) → foreignFit f ≡ true → foreignFit (delayFallen f) ≡ true
-unfolding foreignFit delayFallen
-fallen-fit f h = le-leb (fallen (f .delay)) longest (omega (arith, leb-true (f .delay) longest h))
-
-signalled-fit : (f : Foreign) (tf : ℕ) → tf ≤ longest → foreignFit f ≡ true → foreignFit (signalled f tf) ≡ true
-unfolding foreignFit signalled started
-signalled-fit f tf t h =
-    if-ind (λ (g : Foreign). foreignFit g ≡ true) (eqb (f .delay) 0 && not (due f)) _ _ (λ _. le-leb tf longest t) (λ _. h)
-
-pub foreign-ticked-fit : (f : Foreign) (rises : Bool) (tf : ℕ) → tf ≤ longest → foreignFit f ≡ true → foreignFit (foreignTicked f rises tf) ≡ true
-unfolding foreignTicked
-foreign-ticked-fit f rises tf t h =
-    if-ind (λ (g : Foreign). foreignFit g ≡ true) rises _ _
-    (λ _. signalled-fit (delayFallen f) tf t (fallen-fit f h))
-    (λ _. fallen-fit f h)
-
-pub used-fit : (f : Foreign) → foreignFit f ≡ true → foreignFit (flagUsed f) ≡ true
-unfolding foreignFit flagUsed
-used-fit f h = h
-
-pub none-fit : foreignFit noSignal ≡ true
-unfolding foreignFit noSignal
-none-fit = refl

@@ -1,3 +1,2 @@
 pub mod Sensor
 pub mod Sorter
-pub mod Foreign

@@ -4,7 +4,7 @@ use mathlib.Core.Bool.{true}
 use Rattle.laws.proofs.Tests.{both}
 use Rattle.device.specs.Sensor.{sensorFit}
 use Rattle.device.specs.Sorter.{sorterFit}
-use Rattle.device.specs.Foreign.{foreignFit}
+use Rattle.detector.specs.Foreign.{foreignFit}
 use Rattle.event.specs.Setup.{setupFit}
 use Rattle.settings.specs.Settings.{isCode}
 use Rattle.line.specs.Fit.{statusFit, lineFit}

@@ -7,10 +7,11 @@ use borrow.Author.Tests.{eqb-true}
 use Rattle.laws.proofs.Tests.{both, and-intro, if-ind}
 use Rattle.mask.specs.Bits.{marked}
 use Rattle.device.specs.Sorter.{sorterFit, sorterTicked, queued}
-use Rattle.device.specs.Foreign.{foreignTicked, foreignFit}
+use Rattle.detector.specs.Foreign.{foreignTicked, foreignFit}
 use Rattle.device.specs.declared.sorter.Sorter.{Sorter}
-use Rattle.device.specs.declared.foreign.Foreign.{Foreign}
-use Rattle.device.proofs.Keeps.{settled-fit, ticked-fit, queued-fit, off-fit, off-idle, foreign-ticked-fit}
+use Rattle.detector.specs.declared.Foreign.{Foreign}
+use Rattle.device.proofs.Keeps.{settled-fit, ticked-fit, queued-fit, off-fit, off-idle}
+use Rattle.detector.proofs.Keeps.{foreign-ticked-fit}
 use Rattle.event.specs.declared.Sample.{Sample}
 use Rattle.event.proofs.Facts.{timers, InRange}
 use Rattle.status.specs.Status.{stopped, running, paused, emergency, errorKnown, errorFor}

@@ -16,8 +16,8 @@ use Rattle.settings.specs.Settings.{recordFit}
 use Rattle.settings.specs.Grade.{gradeOf}
 use Rattle.settings.specs.declared.Settings.{Settings}
 use Rattle.settings.proofs.Facts.{net-weight}
-use Rattle.device.specs.Foreign.{due, flagUsed}
-use Rattle.device.proofs.Keeps.{used-fit}
+use Rattle.detector.specs.Foreign.{due, flagUsed}
+use Rattle.detector.proofs.Keeps.{used-fit}
 use Rattle.event.specs.declared.Sample.{Sample}
 use Rattle.event.proofs.Facts.{timers, InRange}
 use Rattle.tally.specs.Tally.{isGrade}

@@ -3,7 +3,7 @@ use mathlib.Core.Bool.{Bool, _&&_, _||_, not}
 use lib.Dec.{eqb, leb}
 use Rattle.device.specs.Sensor.{sensorFit}
 use Rattle.device.specs.Sorter.{sorterFit}
-use Rattle.device.specs.Foreign.{foreignFit}
+use Rattle.detector.specs.Foreign.{foreignFit}
 use Rattle.event.specs.Setup.{setupFit}
 use Rattle.event.specs.Sample.{lastFit}
 use Rattle.settings.specs.Settings.{isCode}

@@ -5,10 +5,10 @@ use lib.Dec.{eqb, ltb}
 use lib.IntN.{pos}
 use Rattle.status.specs.Status.{stopped, running}
 use Rattle.device.specs.Sorter.{sorting, sorterOff}
-use Rattle.device.specs.Foreign.{noSignal}
+use Rattle.detector.specs.Foreign.{noSignal}
 use Rattle.device.specs.declared.sensor.Sensor.{Sensor}
 use Rattle.device.specs.declared.sorter.Sorter.{Sorter}
-use Rattle.device.specs.declared.foreign.Foreign.{Foreign}
+use Rattle.detector.specs.declared.Foreign.{Foreign}
 use Rattle.event.specs.Reply.{noError}
 use Rattle.event.specs.Setup.{freshSetup}
 use Rattle.event.specs.declared.Setup.{Setup}

@@ -11,7 +11,7 @@ use Rattle.settings.specs.Settings.{recordFit}
 use Rattle.settings.specs.declared.Settings.{Settings}
 use Rattle.device.specs.Sensor.{settled}
 use Rattle.device.specs.Sorter.{sorterTicked}
-use Rattle.device.specs.Foreign.{foreignTicked}
+use Rattle.detector.specs.Foreign.{foreignTicked}
 use Rattle.event.specs.Setup.{setupFit}
 use Rattle.event.specs.declared.Sample.{Sample}
 use Rattle.status.specs.Status.{stopped, paused, emergency, unsafeError}

@@ -10,7 +10,7 @@ use Rattle.mask.specs.Bits.{marked}
 use Rattle.settings.specs.Grade.{gradeOf}
 use Rattle.settings.specs.declared.Settings.{Settings}
 use Rattle.device.specs.Sorter.{full, queued}
-use Rattle.device.specs.Foreign.{due, flagUsed}
+use Rattle.detector.specs.Foreign.{due, flagUsed}
 use Rattle.tally.specs.Tally.{isGrade}
 use Rattle.status.specs.Status.{errorFor, paused}
 use Rattle.line.specs.Line.{withStatus, withForeign, withSorter}

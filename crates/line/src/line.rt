@@ -1,7 +1,7 @@
 // The line's record. An event takes it and gives back the next one.
 ghost use mathlib.Core.Path.{_≡_};
 ghost use Rattle.line.specs.Line.{busy, conveyor, sorterOn, freshLine, withStatus, withCode, withSetup, withSensed, withForeign, withItem, withSorter, withUndo};
-use device::Foreign;
+use detector::Foreign;
 use device::Sensor;
 use device::Sorter;
 use event::Done;
