@@ -47,11 +47,11 @@ use Rattle.claim.proofs.Sheets.{chanceOf, beside, Back, Page, Sheets, G
 
 -- ---- outcomes that are no verdict
 
-halting-quiet : (l : Line) (s : ℕ) → isVerdict (halting l s .outcome) ≡ false
+pub halting-quiet : (l : Line) (s : ℕ) → isVerdict (halting l s .outcome) ≡ false
 unfolding halting
 halting-quiet l s = if-ind (λ (o : ℕ). isVerdict o ≡ false) (inHand (l .item)) 10 0 (λ _. refl) (λ _. refl)
 
-stop-quiet : (l : Line) → isVerdict (stopping l .outcome) ≡ false
+pub stop-quiet : (l : Line) → isVerdict (stopping l .outcome) ≡ false
 unfolding stopping
 stop-quiet l =
     if-ind (λ (x : Effect). isVerdict (x .outcome) ≡ false) (isRunning l && busy l) _ _ (λ _. refl)
@@ -69,7 +69,7 @@ with-code l c f h =
       sensor = f .sensor;
       status = f .status;
       sorter = f .sorter;
-      delay = f .delay;
+      foreign = f .foreign;
       item = f .item;
       undo = nothing-fit;
     }
@@ -88,7 +88,7 @@ no-error l f =
       sensor = f .sensor;
       status = and-intro (and-intro (and-intro (c .0) refl) (or-true (eqb (l .status) paused))) (a .1);
       sorter = f .sorter;
-      delay = f .delay;
+      foreign = f .foreign;
       item = f .item;
       undo = f .undo;
     }
@@ -128,7 +128,7 @@ with-setup l s f h z =
       sensor = f .sensor;
       status = f .status;
       sorter = f .sorter;
-      delay = f .delay;
+      foreign = f .foreign;
       item = item-none (l .item) s (stopped-empty l (f .status) z);
       undo = f .undo;
     }

@@ -16,7 +16,7 @@ use Rattle.settings.specs.Settings.{blank, recordFit, recordRanged, limitsOrder
 use Rattle.settings.specs.declared.Settings.{Settings}
 use Rattle.device.specs.Sensor.{sensorFit}
 use Rattle.device.proofs.Keeps.{off-fit, off-idle}
-use Rattle.detector.proofs.Keeps.{none-fit}
+use Rattle.detector.proofs.Signals.{none-fit}
 use Rattle.event.specs.Setup.{setupRanged, edgeAgrees}
 use Rattle.event.specs.Event.{eventRanged, eventAgrees}
 use Rattle.event.specs.declared.Event.{Event}
@@ -182,7 +182,7 @@ holds-after w e h =
 fresh-fit : FitLine freshLine
 unfolding freshLine setupRanged edgeAgrees lastFit sensorFit statusFit errorKnown busy itemFit undoFit
 fresh-fit =
-    record { code = refl; setup = refl; last = refl; sensor = refl; status = rw off-idle; sorter = off-fit; delay = none-fit; item = refl; undo = refl }
+    record { code = refl; setup = refl; last = refl; sensor = refl; status = rw off-idle; sorter = off-fit; foreign = none-fit; item = refl; undo = refl }
 
 blank-fit : recordFit blank ≡ true
 unfolding recordRanged limitsOrdered

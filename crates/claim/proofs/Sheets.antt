@@ -139,7 +139,7 @@ with-undo k u f h =
       sensor = f .sensor;
       status = f .status;
       sorter = f .sorter;
-      delay = f .delay;
+      foreign = f .foreign;
       item = f .item;
       undo = h;
     }

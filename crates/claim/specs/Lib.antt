@@ -2,3 +2,5 @@ pub mod Run
 pub mod Claim
 pub mod Example
 pub mod StatusRefusals
+pub mod RunningTick
+pub mod Signals

@@ -1,6 +1,7 @@
 // Demand 3: no box is counted twice or lost, whatever list of events comes.
 ghost use Rattle.claim.specs.Claim.{Claim};
 ghost use Rattle.claim.specs.Example.{Example};
+ghost use Rattle.claim.specs.Signals.{SignalsKept};
 ghost use Rattle.claim.specs.StatusRefusals.{StatusRefusals};
 
 // The claim over every list of events, from a fresh line and fresh memory. It says nothing of the code here: it is a
@@ -17,4 +18,9 @@ pub fn worked_example()
 // Why the status refuses an event: 3, 9 and 10 each exactly where 02 gives it, and a refusal alters nothing.
 pub fn status_refusals()
     ensures { λ _. ⌜ StatusRefusals ⌝ }
+{}
+
+// No foreign signal that is carried is lost but by a foreign verdict or its crash, and at most eight are carried.
+pub fn signals_kept()
+    ensures { λ _. ⌜ SignalsKept ⌝ }
 {}

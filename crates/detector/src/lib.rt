@@ -1,84 +1,123 @@
-// The foreign detector: a signal under way (delay) or arrived (flag).
+// The foreign detector, some boxes before the scale: the signals that are under way to it.
 ghost use mathlib.Core.Path.{_≡_};
-ghost use Rattle.detector.specs.Foreign.{due, delayFallen, started, signalled, foreignTicked, flagUsed, noSignal, foreignFit};
-use time::is_time;
+ghost use Rattle.detector.specs.Foreign.{eightCarried, due, delaysFallen, signalled, foreignTicked, oldestUsed, noSignal, foreignFit};
+use queue::Queue;
+use time::fallen;
 
 pub struct Foreign {
-    pub delay: u64,
-    // 1 if set, else 0: a number, since the padding behind a bool is copied at a cost
-    pub flag: u64,
+    // the delay left of each, in ticks, 0 to time::LONGEST; the oldest stands first. At 0 it has ended
+    pub signals: Queue,
 }
 
 impl Foreign {
     pub fn none() -> Foreign
         ensures { λ r. ⌜ r ≡ noSignal ⌝ }
     {
-        Foreign { delay: 0, flag: 0 }
-    }
-
-    // A signal on its way; with no delay it is there now.
-    fn started(tf: u64) -> Foreign
-        ensures { λ r. ⌜ r ≡ started tf ⌝ }
-    {
-        if tf == 0 {
-            return Foreign { delay: 0, flag: 1 };
+        Foreign {
+            signals: Queue::empty(),
         }
-        Foreign { delay: tf, flag: 0 }
     }
 
-    fn fallen(self) -> Foreign
-        ensures { λ r. ⌜ r ≡ delayFallen self ⌝ }
+    // As many are carried as can be, ended ones included.
+    pub fn eight_carried(self) -> bool
+        ensures { λ r. ⌜ r ≡ eightCarried self ⌝ }
     {
-        if self.delay == 0 {
+        let signals = self.signals;
+        signals.is_full()
+    }
+
+    // With none carried no place is copied.
+    fn delays_fallen(self) -> Foreign
+        ensures { λ r. ⌜ r ≡ delaysFallen self ⌝ }
+    {
+        let signals = self.signals;
+        if signals.is_empty() {
             return self;
         }
-        if self.delay == 1 {
-            return Foreign { delay: 0, flag: 1 };
+        let n = signals.waiting() as usize;
+        let delays = signals.waits;
+        let mut left = [0u64; Queue::PLACES as usize];
+        let mut i: usize = 0;
+        while i < n {
+            left[i] = fallen(delays[i]);
+            i += 1;
         }
         Foreign {
-            delay: self.delay - 1,
-            flag: self.flag,
+            signals: Queue {
+                waits: left,
+                n: n as u64,
+            },
         }
     }
 
     fn signalled(self, tf: u64) -> Foreign
         ensures { λ r. ⌜ r ≡ signalled self tf ⌝ }
     {
-        if (self.delay == 0) & !self.due() {
-            return Foreign::started(tf);
+        let signals = self.signals;
+        Foreign {
+            signals: signals.joined(tf),
         }
-        self
     }
 
-    // A running tick: the delay falls, then a change 0 to 1 is looked at.
+    // A running tick: all delays fall, then a change 0 to 1 is looked at.
     pub fn ticked(self, rises: bool, tf: u64) -> Foreign
         ensures { λ r. ⌜ r ≡ foreignTicked self rises tf ⌝ }
     {
+        let next = self.delays_fallen();
         if rises {
-            return self.fallen().signalled(tf);
+            return next.signalled(tf);
         }
-        self.fallen()
+        next
     }
 
-    // The flag is set: the next verdict is foreign.
+    // One has ended: the next verdict is foreign.
     pub fn due(self) -> bool
         ensures { λ r. ⌜ r ≡ due self ⌝ }
     {
-        self.flag != 0
+        let signals = self.signals;
+        let n = signals.waiting() as usize;
+        let delays = signals.waits;
+        let mut i: usize = 0;
+        while i < n {
+            if delays[i] == 0 {
+                return true;
+            }
+            i += 1;
+        }
+        false
     }
 
+    // Without the oldest that has ended. Up to that one k is i.
     pub fn used(self) -> Foreign
-        ensures { λ r. ⌜ r ≡ flagUsed self ⌝ }
+        ensures { λ r. ⌜ r ≡ oldestUsed self ⌝ }
     {
+        let signals = self.signals;
+        let n = signals.waiting() as usize;
+        let delays = signals.waits;
+        let mut left = [0u64; Queue::PLACES as usize];
+        let mut k: usize = 0;
+        let mut i: usize = 0;
+        while i < n {
+            let delay = delays[i];
+            let oldest = (k == i) & (delay == 0);
+            if !oldest {
+                left[k] = delay;
+                k += 1;
+            }
+            i += 1;
+        }
         Foreign {
-            delay: self.delay,
-            flag: 0,
+            signals: Queue {
+                waits: left,
+                n: k as u64,
+            },
         }
     }
 
     pub fn fit(self) -> bool
         ensures { λ r. ⌜ r ≡ foreignFit self ⌝ }
     {
-        is_time(self.delay)
+        let signals = self.signals;
+        signals.fit(0)
     }
 }

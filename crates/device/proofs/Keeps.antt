@@ -34,7 +34,7 @@ settled-fit s tc level t l h =
 pub ticked-fit : (s : Sorter) (to : ℕ) → to ≤ longest → sorterFit s ≡ true → sorterFit (sorterTicked s to) ≡ true
 unfolding sorterFit sorterTicked
 ticked-fit s to t h =
-    let b = both (queueFit (s .queue)) (isTime (s .on)) h in
+    let b = both (queueFit (s .queue) 1) (isTime (s .on)) h in
     and-intro (queue-ticked-fit (s .queue) (b .0))
     (if-ind (λ (n : ℕ). isTime n ≡ true) (oneEnds (s .queue)) _ _
     (λ _. le-leb to longest t)
@@ -43,12 +43,12 @@ ticked-fit s to t h =
 pub queued-fit : (s : Sorter) (ts : ℕ) → within 1 longest ts ≡ true → sorterFit s ≡ true → sorterFit (queued s ts) ≡ true
 unfolding sorterFit queued
 queued-fit s ts t h =
-    let b = both (queueFit (s .queue)) (isTime (s .on)) h in
-    and-intro (joined-fit (s .queue) ts t (b .0)) (b .1)
+    let b = both (queueFit (s .queue) 1) (isTime (s .on)) h in
+    and-intro (joined-fit (s .queue) ts 1 t (b .0)) (b .1)
 
 pub off-fit : sorterFit sorterOff ≡ true
 unfolding sorterFit sorterOff allOf
-off-fit = and-intro (laid-fit [] (omega arith) refl) refl
+off-fit = and-intro (laid-fit [] 1 (omega arith) refl) refl
 
 pub off-idle : sorting sorterOff ≡ false
 unfolding sorting sorterOff isEmpty waiting waitsOf laid

@@ -31,4 +31,4 @@ sorterOff = record { queue = laid []; on = 0 }
 
 -- "at most 8 waits of 1 to 9,999, other times 0 to 9,999"
 unfoldable pub sorterFit : Sorter → Bool
-sorterFit s = queueFit (s .queue) && isTime (s .on)
+sorterFit s = queueFit (s .queue) 1 && isTime (s .on)

@@ -81,6 +81,6 @@ impl Sorter {
         ensures { λ r. ⌜ r ≡ sorterFit self ⌝ }
     {
         let queue = self.queue;
-        queue.fit() & is_time(self.on)
+        queue.fit(1) & is_time(self.on)
     }
 }

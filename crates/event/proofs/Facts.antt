@@ -52,6 +52,7 @@ timers s h =
 
 pub record InRange (s : Sample) : Type 0 where
   pub sensor : s .sensor ≤ 1
+  pub emergency : s .emergency ≤ 1
   pub foreign : leb (s .foreign) 1 ≡ true
   pub safety : leb (s .safety) 255 ≡ true
   pub gross : isWeight (s .gross) ≡ true
@@ -63,4 +64,4 @@ in-range s h =
     let b = both _ (leb (s .safety) 255) (a .0) in
     let c = both _ (leb (s .foreign) 1) (b .0) in
     let d = both _ (leb (s .emergency) 1) (c .0) in
-    record { sensor = leb-true _ _ (d .0); foreign = c .1; safety = b .1; gross = a .1 }
+    record { sensor = leb-true _ _ (d .0); emergency = leb-true _ _ (d .1); foreign = c .1; safety = b .1; gross = a .1 }

@@ -2,6 +2,7 @@
 use Prim.Native.Nat.{ℕ}
 use mathlib.Core.Bool.{Bool}
 use lib.Dec.{eqb}
+use Rattle.event.specs.declared.Sample as sample
 use Rattle.event.specs.declared.Event.{Event}
 use Rattle.event.specs.declared.Event.the-variants.{Sample, Run, Stop, Emergency, Recall, Cancel, ClearCode, ClearAll, ErrorReset, NoOperation, Setup, Store}
 
@@ -18,6 +19,21 @@ kindOf ErrorReset = 8
 kindOf NoOperation = 9
 kindOf (Setup s) = 10
 kindOf (Store c s) = 11
+
+-- what f says of a sample, and d of every other kind
+abbrev pub ofSample : {A : Type 0} → (sample.Sample → A) → A → Event → A
+ofSample f d (Sample s) = f s
+ofSample f d Run = d
+ofSample f d Stop = d
+ofSample f d Emergency = d
+ofSample f d (Recall c) = d
+ofSample f d Cancel = d
+ofSample f d (ClearCode c) = d
+ofSample f d ClearAll = d
+ofSample f d ErrorReset = d
+ofSample f d NoOperation = d
+ofSample f d (Setup s) = d
+ofSample f d (Store c s) = d
 
 abbrev pub isSample : Event → Bool
 isSample e = eqb (kindOf e) 0

@@ -20,7 +20,7 @@ pub record FitLine (l : Line) : Type 0 where
   pub sensor : sensorFit (l .sensor) ≡ true
   pub status : statusFit l ≡ true
   pub sorter : sorterFit (l .sorter) ≡ true
-  pub delay : foreignFit (l .foreign) ≡ true
+  pub foreign : foreignFit (l .foreign) ≡ true
   pub item : itemFit (l .item) (l .setup) ≡ true
   pub undo : undoFit (l .undo) ≡ true
 
@@ -42,7 +42,7 @@ fit-tells l h =
       sensor = f .1;
       status = e .1;
       sorter = d .1;
-      delay = c .1;
+      foreign = c .1;
       item = b .1;
       undo = a .1;
     }
@@ -50,4 +50,4 @@ fit-tells l h =
 pub tells-fit : (l : Line) → FitLine l → lineFit l ≡ true
 unfolding lineFit
 tells-fit l f =
-    rw (f .code, f .setup, f .last, f .sensor, f .status, f .sorter, f .delay, f .item, f .undo)
+    rw (f .code, f .setup, f .last, f .sensor, f .status, f .sorter, f .foreign, f .item, f .undo)

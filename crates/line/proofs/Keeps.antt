@@ -11,7 +11,7 @@ use Rattle.detector.specs.Foreign.{foreignTicked, foreignFit}
 use Rattle.device.specs.declared.sorter.Sorter.{Sorter}
 use Rattle.detector.specs.declared.Foreign.{Foreign}
 use Rattle.device.proofs.Keeps.{settled-fit, ticked-fit, queued-fit, off-fit, off-idle}
-use Rattle.detector.proofs.Keeps.{foreign-ticked-fit}
+use Rattle.detector.proofs.Signals.{foreign-ticked-fit}
 use Rattle.event.specs.declared.Sample.{Sample}
 use Rattle.event.proofs.Facts.{timers, InRange}
 use Rattle.status.specs.Status.{stopped, running, paused, emergency, errorKnown, errorFor}
@@ -63,7 +63,7 @@ with-item l i r h =
         sensor = r .fit .sensor;
         status = running-status (withItem l i) (r .status) (r .error);
         sorter = r .fit .sorter;
-        delay = r .fit .delay;
+        foreign = r .fit .foreign;
         item = h;
         undo = r .fit .undo;
       };
@@ -81,7 +81,7 @@ with-sorter l s r h =
         sensor = r .fit .sensor;
         status = running-status (withSorter l s) (r .status) (r .error);
         sorter = h;
-        delay = r .fit .delay;
+        foreign = r .fit .foreign;
         item = r .fit .item;
         undo = r .fit .undo;
       };
@@ -99,7 +99,7 @@ with-foreign l f r h =
         sensor = r .fit .sensor;
         status = running-status (withForeign l f) (r .status) (r .error);
         sorter = r .fit .sorter;
-        delay = h;
+        foreign = h;
         item = r .fit .item;
         undo = r .fit .undo;
       };
@@ -116,7 +116,7 @@ with-paused l e f h =
       sensor = f .sensor;
       status = paused-status (withStatus l paused e) refl h;
       sorter = f .sorter;
-      delay = f .delay;
+      foreign = f .foreign;
       item = f .item;
       undo = f .undo;
     }
@@ -133,7 +133,7 @@ pub fit-step5 : (l : Line) (t : Tick) → Running l → Running (step5 l t)
 unfolding step5
 fit-step5 l t r =
     with-foreign l (foreignTicked (l .foreign) (t .rises) (l .setup .tf)) r
-    (foreign-ticked-fit (l .foreign) (t .rises) (l .setup .tf) (timers (l .setup) (r .fit .setup) .tf) (r .fit .delay))
+    (foreign-ticked-fit (l .foreign) (t .rises) (l .setup .tf) (timers (l .setup) (r .fit .setup) .tf) (r .fit .foreign))
 
 pub fit-sorted : (l : Line) (v : ℕ) → Running l → Running (sortedFor l v)
 unfolding sortedFor
@@ -165,7 +165,7 @@ fit-step1 l s f r =
       sensor = settled-fit (l .sensor) (l .setup .tc) (s .sensor) (timers (l .setup) (f .setup) .tc) (r .sensor) (f .sensor);
       status = f .status;
       sorter = f .sorter;
-      delay = f .delay;
+      foreign = f .foreign;
       item = f .item;
       undo = f .undo;
     }
@@ -182,7 +182,7 @@ halted-fit l s f h =
       sensor = f .sensor;
       status = h;
       sorter = off-fit;
-      delay = f .delay;
+      foreign = f .foreign;
       item = refl;
       undo = f .undo;
     }

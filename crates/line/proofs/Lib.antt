@@ -3,4 +3,5 @@ pub mod Accepted
 pub mod Moves
 pub mod Keeps
 pub mod Ticks
+pub mod Signals
 pub mod Stores

@@ -16,18 +16,18 @@ use Rattle.settings.specs.Settings.{recordFit}
 use Rattle.settings.specs.Grade.{gradeOf}
 use Rattle.settings.specs.declared.Settings.{Settings}
 use Rattle.settings.proofs.Facts.{net-weight}
-use Rattle.detector.specs.Foreign.{due, flagUsed}
-use Rattle.detector.proofs.Keeps.{used-fit}
+use Rattle.detector.specs.Foreign.{due, oldestUsed}
+use Rattle.detector.proofs.Signals.{used-fit}
 use Rattle.event.specs.declared.Sample.{Sample}
 use Rattle.event.proofs.Facts.{timers, InRange}
 use Rattle.tally.specs.Tally.{isGrade}
-use Rattle.status.specs.Status.{stopped, running, paused, emergency, errorKnown}
+use Rattle.status.specs.Status.{stopped, running, paused, emergency, ninthError, errorKnown}
 use Rattle.line.specs.Line.{isRunning, busy, withStatus, withForeign, withItem}
 use Rattle.event.specs.Reply.{noError}
 use Rattle.item.specs.Item.{inHand, itemFit, newItem}
 use Rattle.line.specs.Effect.{plain, halted, halting}
 use Rattle.line.specs.Verdict.{sortedFor, stoppedFor, given, orCrash, verdictOf, judged}
-use Rattle.line.specs.Sample.{step1, step2, step3, step4, step5, step6, step7, afterWeighing, detecting, runningTick, guarded, fromStep3, sampled, tickOf}
+use Rattle.line.specs.Sample.{step1, step2, step3, step4, step5, step6, step7, afterWeighing, detecting, ninthSignal, unlessNinth, runningTick, guarded, fromStep3, sampled, tickOf}
 use Rattle.line.specs.Command.{ran, stopping, alarmed}
 use Rattle.line.specs.declared.sample.Tick.{Tick}
 use Rattle.line.specs.declared.line.Line.{Line}
@@ -67,31 +67,39 @@ pub record Gives (l : Line) (d v : ℕ) (e : Effect) : Type 0 where
   pub outcome : e .outcome ≡ v
   pub net : isWeight (e .net) ≡ true
 
-record Same (l m : Line) : Type 0 where
-  code : m .code ≡ l .code
-  undo : m .undo ≡ l .undo
-  item : m .item ≡ l .item
+-- what a verdict leaves as it was
+pub record Same (l m : Line) : Type 0 where
+  pub code : m .code ≡ l .code
+  pub undo : m .undo ≡ l .undo
+  pub item : m .item ≡ l .item
+  pub foreign : m .foreign ≡ l .foreign
 
 sorted-same : (l : Line) (v : ℕ) → Same l (sortedFor l v)
 unfolding sortedFor
 sorted-same l v =
-    if-ind (Same l) (marked (l .setup .sort) v) _ _ (λ _. record { code = refl; undo = refl; item = refl }) (λ _. record { code = refl; undo = refl; item = refl })
+    if-ind (Same l) (marked (l .setup .sort) v) _ _ (λ _. record { code = refl; undo = refl; item = refl; foreign = refl }) (λ _. record { code = refl; undo = refl; item = refl; foreign = refl })
 
 stopped-same : (l : Line) (v : ℕ) → Same l (stoppedFor l v)
 unfolding stoppedFor
 stopped-same l v =
-    if-ind (Same l) (marked (l .setup .stop) v) _ _ (λ _. record { code = refl; undo = refl; item = refl }) (λ _. record { code = refl; undo = refl; item = refl })
+    if-ind (Same l) (marked (l .setup .stop) v) _ _ (λ _. record { code = refl; undo = refl; item = refl; foreign = refl }) (λ _. record { code = refl; undo = refl; item = refl; foreign = refl })
+
+pub given-same : (l : Line) (d v : ℕ) (net : ℤ) → Same l (given l d v net .line)
+unfolding given
+given-same l d v net =
+    let a = sorted-same l v in
+    let b = stopped-same (sortedFor l v) v in
+    record { code = b .code ∙ a .code; undo = b .undo ∙ a .undo; item = b .item ∙ a .item; foreign = b .foreign ∙ a .foreign }
 
 gives : (l : Line) (d v : ℕ) (net : ℤ) → Running l → isWeight net ≡ true → Gives l d v (given l d v net)
 unfolding given
 gives l d v net r w =
-    let a = sorted-same l v in
-    let b = stopped-same (sortedFor l v) v in
+    let a = given-same l d v net in
     record {
       fit = fit-stopped (sortedFor l v) v (fit-sorted l v r .fit);
-      code = b .code ∙ a .code;
-      undo = b .undo ∙ a .undo;
-      item = b .item ∙ a .item;
+      code = a .code;
+      undo = a .undo;
+      item = a .item;
       detected = refl;
       outcome = refl;
       net = if-ind (λ (x : ℤ). isWeight x ≡ true) (isGrade v) _ _ (λ _. w) (λ _. refl);
@@ -135,12 +143,12 @@ judged-ends l k v net r c u i w j n =
     }
 
 verdict-ends : (l : Line) (a : Settings) (net : ℤ) → Running (withItem l None) → inHand (l .item) ≡ true → isWeight net ≡ true → Ends l (verdictOf (withItem l None) a net)
-unfolding verdictOf flagUsed
+unfolding verdictOf oldestUsed
 verdict-ends l a net r w n =
     let k = withItem l None in
     if-ind (Ends l) (due (l .foreign)) _ _
-    (λ _. judged-ends l (withForeign k (flagUsed (l .foreign))) (orCrash k 6) net
-    (with-foreign k (flagUsed (l .foreign)) r (used-fit (l .foreign) (r .fit .delay))) refl refl refl w
+    (λ _. judged-ends l (withForeign k (oldestUsed (l .foreign))) (orCrash k 6) net
+    (with-foreign k (oldestUsed (l .foreign)) r (used-fit (l .foreign) (r .fit .foreign))) refl refl refl w
     (crash-judged k 6 foreign-judged) n)
     (λ _. judged-ends l k (orCrash k (gradeOf a net)) net r refl refl refl w (crash-judged k (gradeOf a net) (grade-judged a net)) n)
 
@@ -236,15 +244,18 @@ went-from : (k l : Line) (e : Effect) → k .code ≡ l .code → k .undo ≡ l 
 went-from k l e c u i w =
     record { fit = w .fit; code = w .code ∙ c; undo = w .undo ∙ u; boxes = rw (← i) (w .boxes); net = w .net }
 
-tick-goes : (l : Line) (t : Tick) → Running l → recordFit (t .active) ≡ true → isWeight (t .gross) ≡ true → Went l (runningTick l t)
-unfolding runningTick step4 step5
-tick-goes l t r f g =
-    let k = step5 (step4 l) t in
-    went-from k l _ refl refl refl
-    (seven k (step6 k t) t (six k t (fit-step5 (step4 l) t (fit-step4 l r)) f g))
-
 pub plain-goes : (l k : Line) → FitLine k → k .code ≡ l .code → k .undo ≡ l .undo → k .item ≡ l .item → Went l (plain k)
 plain-goes l k f c u i = record { fit = f; code = c; undo = u; boxes = rw i (moves.still (hand l)); net = refl }
+
+tick-goes : (l : Line) (t : Tick) → Running l → recordFit (t .active) ≡ true → isWeight (t .gross) ≡ true → Went l (runningTick l t)
+unfolding runningTick unlessNinth step4 step5 errorKnown
+tick-goes l t r f g =
+    let k = step5 (step4 l) t in
+    let run : Running k = fit-step5 (step4 l) t (fit-step4 l r) in
+    went-from k l _ refl refl refl
+    (if-ind (Went k) (ninthSignal l t) _ _
+    (λ _. plain-goes k (withStatus k paused ninthError) (with-paused k ninthError (run .fit) refl) refl refl refl)
+    (λ _. seven k (step6 k t) t (six k t run f g)))
 
 halting-goes : (l : Line) (s : ℕ) → FitLine (halted l s) → Went l (halting l s)
 unfolding halting halted
@@ -311,7 +322,7 @@ run-goes l f =
       sensor = f .sensor;
       status = running-status (withStatus l running noError) refl refl;
       sorter = f .sorter;
-      delay = f .delay;
+      foreign = f .foreign;
       item = f .item;
       undo = f .undo;
     })

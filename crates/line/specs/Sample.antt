@@ -1,4 +1,4 @@
--- 01, "Sample": the seven steps in order.
+-- 01, "Sample": the seven steps in order, and where error 7 ends a tick.
 use Prim.Native.Nat.{ℕ}
 use mathlib.Core.Bool.{Bool, true, _&&_}
 use mathlib.Core.Path.{_≡_}
@@ -11,10 +11,10 @@ use Rattle.settings.specs.Settings.{recordFit}
 use Rattle.settings.specs.declared.Settings.{Settings}
 use Rattle.device.specs.Sensor.{settled}
 use Rattle.device.specs.Sorter.{sorterTicked}
-use Rattle.detector.specs.Foreign.{foreignTicked}
+use Rattle.detector.specs.Foreign.{eightCarried, foreignTicked}
 use Rattle.event.specs.Setup.{setupFit}
 use Rattle.event.specs.declared.Sample.{Sample}
-use Rattle.status.specs.Status.{stopped, paused, emergency, unsafeError}
+use Rattle.status.specs.Status.{stopped, paused, emergency, unsafeError, ninthError}
 use Rattle.item.specs.Item.{inHand, itemFit, newItem, weighed}
 use Rattle.item.specs.declared.Item.the-variants.{None}
 use Rattle.item.specs.declared.Weighed.{Weighed}
@@ -72,7 +72,7 @@ step3 l = if eqb (lowestOff (l .setup .need) (l .last .safety)) 0 then l else wi
 unfoldable pub step4 : Line → Line
 step4 l = withSorter l (sorterTicked (l .sorter) (l .setup .to))
 
--- 5. the foreign delay and flag
+-- 5. 02, T-04: "Step 5 lets all delays fall and counts those that ended."; then a change 0 to 1 is one signal more
 unfoldable pub step5 : Line → Tick → Line
 step5 l t = withForeign l (foreignTicked (l .foreign) (t .rises) (l .setup .tf))
 
@@ -94,9 +94,17 @@ detecting e =
 unfoldable pub step7 : Effect → Tick → Effect
 step7 e t = if isRunning (e .line) && t .made then detecting e else e
 
+-- 02, T-04: "A change 0 to 1 with eight carried, ended ones included"; that delays fall alters no number of signals
+unfoldable pub ninthSignal : Line → Tick → Bool
+ninthSignal l t = t .rises && eightCarried (l .foreign)
+
+-- it "pauses the line at once with error 7, after step 5 and before step 6"; else come steps 6 and 7
+unfoldable pub unlessNinth : Bool → Line → Tick → Effect
+unlessNinth ninth l t = if ninth then plain (withStatus l paused ninthError) else step7 (step6 l t) t
+
 -- "Else it is a running tick": steps 4 to 7
 unfoldable pub runningTick : Line → Tick → Effect
-runningTick l t = step7 (step6 (step5 (step4 l) t) t) t
+runningTick l t = unlessNinth (ninthSignal l t) (step5 (step4 l) t) t
 
 -- step 3, and a running tick if it did not end the sample
 unfoldable pub guarded : Line → Tick → Effect

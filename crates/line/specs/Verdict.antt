@@ -10,7 +10,7 @@ use Rattle.mask.specs.Bits.{marked}
 use Rattle.settings.specs.Grade.{gradeOf}
 use Rattle.settings.specs.declared.Settings.{Settings}
 use Rattle.device.specs.Sorter.{full, queued}
-use Rattle.detector.specs.Foreign.{due, flagUsed}
+use Rattle.detector.specs.Foreign.{due, oldestUsed}
 use Rattle.tally.specs.Tally.{isGrade}
 use Rattle.status.specs.Status.{errorFor, paused}
 use Rattle.line.specs.Line.{withStatus, withForeign, withSorter}
@@ -40,10 +40,10 @@ given l detected v net =
 unfoldable pub orCrash : Line → ℕ → ℕ
 orCrash l v = if marked (l .setup .sort) v && full (l .sorter) then 8 else v
 
--- "the verdict due is foreign if the flag is set (flag used up), else the grade"
+-- foreign if a signal has ended, else the grade. 02, T-04: "A foreign verdict due in step 6 uses up one ended signal, the oldest, also where it becomes crash."
 unfoldable pub verdictOf : Line → Settings → ℤ → Effect
 verdictOf l a net =
-    if due (l .foreign) then given (withForeign l (flagUsed (l .foreign))) 0 (orCrash l 6) net
+    if due (l .foreign) then given (withForeign l (oldestUsed (l .foreign))) 0 (orCrash l 6) net
     else given l 0 (orCrash l (gradeOf a net)) net
 
 -- "If m ≤ nearzero: dismissed. Else net = m - tare"

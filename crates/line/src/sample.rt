@@ -4,7 +4,7 @@ ghost use mathlib.Core.Bool.{true};
 ghost use Rattle.settings.specs.Settings.{recordFit};
 ghost use Rattle.event.specs.Sample.{sampleRanged};
 ghost use Rattle.line.specs.Fit.{lineFit};
-ghost use Rattle.line.specs.Sample.{Ready, step1, edgeMade, foreignRises, step4, step5, step6, detecting, step7, runningTick, sampled};
+ghost use Rattle.line.specs.Sample.{Ready, step1, edgeMade, foreignRises, step4, step5, step6, detecting, step7, ninthSignal, runningTick, sampled};
 use crate::effect::Effect;
 use crate::line::Line;
 use event::Last;
@@ -63,7 +63,7 @@ impl Line {
         self.with_sorter(next)
     }
 
-    // The foreign delay and flag.
+    // The foreign signals under way.
     fn step5(self, tick: Tick) -> Line
         ensures { λ r. ⌜ r ≡ step5 self tick ⌝ }
     {
@@ -115,13 +115,25 @@ impl Line {
         }
     }
 
-    // Steps 4 to 7.
+    // The level rose with as many signals carried as can be.
+    fn ninth_signal(self, tick: Tick) -> bool
+        ensures { λ r. ⌜ r ≡ ninthSignal self tick ⌝ }
+    {
+        let foreign = self.foreign;
+        tick.rises & foreign.eight_carried()
+    }
+
+    // Steps 4 to 7; a ninth signal ends them behind 5.
     fn running_tick(self, tick: Tick) -> Effect
         requires { ⌜ Ready self tick ⌝ }
         ensures { λ r. ⌜ r ≡ runningTick self tick ⌝ }
     {
-        let weighed = self.step4().step5(tick).step6(tick);
-        Line::step7(weighed, tick)
+        let ninth = self.ninth_signal(tick);
+        let next = self.step4().step5(tick);
+        if ninth {
+            return Effect::plain(next.with_status(Line::PAUSED, status::NINTH_SIGNAL));
+        }
+        Line::step7(next.step6(tick), tick)
     }
 
     pub(crate) fn sampled(self, active: Settings, s: Sample) -> Effect

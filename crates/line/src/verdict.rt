@@ -65,7 +65,7 @@ impl Line {
         verdict
     }
 
-    // Foreign if the flag is set, which uses it up, else the grade.
+    // Foreign if a signal has ended, of which the oldest is used up, else the grade.
     fn verdict_of(self, active: Settings, net: i64) -> Effect
         ensures { λ r. ⌜ r ≡ verdictOf self active net ⌝ }
     {

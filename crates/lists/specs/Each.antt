@@ -1,7 +1,8 @@
 -- A test of one element, applied to a list of them.
+use Prim.Native.Nat.{ℕ, _+_}
 use mathlib.Core.Bool.{Bool, true, false, _&&_, _||_}
 use mathlib.Core.List.{List, [], _∷_}
-use Rattle.laws.specs.Choice.{if_then_else_}
+use Rattle.laws.specs.Choice.{if_then_else_, bit}
 
 -- one of the list passes
 unfoldable pub anyOf : {A : Type 0} → (A → Bool) → List A → Bool
@@ -13,7 +14,17 @@ unfoldable pub allOf : {A : Type 0} → (A → Bool) → List A → Bool
 allOf p [] = true
 allOf p (x ∷ xs) = p x && allOf p xs
 
+-- how many of the list pass
+unfoldable pub counted : {A : Type 0} → (A → Bool) → List A → ℕ
+counted p [] = 0
+counted p (x ∷ xs) = bit (p x) + counted p xs
+
 -- the list without those that pass
 unfoldable pub without : {A : Type 0} → (A → Bool) → List A → List A
 without p [] = []
 without p (x ∷ xs) = if p x then without p xs else x ∷ without p xs
+
+-- the list without the first that passes
+unfoldable pub withoutFirst : {A : Type 0} → (A → Bool) → List A → List A
+withoutFirst p [] = []
+withoutFirst p (x ∷ xs) = if p x then xs else x ∷ withoutFirst p xs

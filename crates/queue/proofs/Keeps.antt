@@ -16,9 +16,9 @@ use Rattle.queue.specs.Queue.{places, waitsOf, laid, waiting, isEmpty, i
 use Rattle.queue.specs.declared.Queue.{Queue}
 use Rattle.queue.proofs.Waits.{waits-laid}
 
-pub laid-fit : (l : List ℕ) → length l ≤ places → allOf (within 1 longest) l ≡ true → queueFit (laid l) ≡ true
+pub laid-fit : (l : List ℕ) (shortest : ℕ) → length l ≤ places → allOf (within shortest longest) l ≡ true → queueFit (laid l) shortest ≡ true
 unfolding queueFit laid
-laid-fit l n h = and-intro (le-leb (length l) places n) (rw (waits-laid l) h)
+laid-fit l shortest n h = and-intro (le-leb (length l) places n) (rw (waits-laid l) h)
 
 -- a wait that has fallen and not ended
 still-fit : (w : ℕ) → within 1 longest w ≡ true → ended (fallen w) ≡ false → within 1 longest (fallen w) ≡ true
@@ -27,26 +27,29 @@ still-fit w h t =
     let above : fallen w ≡ 0 → ⊥ = eqb-false (fallen w) 0 t in
     and-intro (le-leb 1 (fallen w) (omega arith)) (le-leb (fallen w) longest (omega (arith, leb-true w longest (b .1))))
 
-waits-few : (q : Queue) → waiting q ≤ q .n
-unfolding waiting waitsOf
-waits-few q = omega (arith, length-take (q .n) (q .waits))
+-- what a fit queue tells: it holds no more than its places, and its waits
+pub fit-tells : (q : Queue) (shortest : ℕ) → queueFit q shortest ≡ true → (waiting q ≤ places) × (allOf (within shortest longest) (waitsOf q) ≡ true)
+unfolding queueFit waiting waitsOf
+fit-tells q shortest h =
+    let b = both (leb (q .n) places) (allOf (within shortest longest) (waitsOf q)) h in
+    (omega (arith, length-take (q .n) (q .waits), leb-true (q .n) places (b .0)), b .1)
 
-pub queue-ticked-fit : (q : Queue) → queueFit q ≡ true → queueFit (queueTicked q) ≡ true
-unfolding queueTicked queueFit waiting
+pub queue-ticked-fit : (q : Queue) → queueFit q 1 ≡ true → queueFit (queueTicked q) 1 ≡ true
+unfolding queueTicked waiting
 queue-ticked-fit q h =
-    let b = both (leb (q .n) places) (allOf (within 1 longest) (waitsOf q)) h in
+    let b = fit-tells q 1 h in
     let fell = map fallen (waitsOf q) in
-    let few : length (without ended fell) ≤ places = omega (arith, without-short ended fell, length-map (waitsOf q) fallen, waits-few q, leb-true (q .n) places (b .0)) in
-    if-ind (λ (k : Queue). queueFit k ≡ true) (isEmpty q) _ _
+    let few : length (without ended fell) ≤ places = omega (arith, without-short ended fell, length-map (waitsOf q) fallen, b .0) in
+    if-ind (λ (k : Queue). queueFit k 1 ≡ true) (isEmpty q) _ _
     (λ _. h)
-    (λ _. laid-fit (without ended fell) few (without-keeps ended (within 1 longest) fallen still-fit (waitsOf q) (b .1)))
+    (λ _. laid-fit (without ended fell) 1 few (without-keeps ended (within 1 longest) fallen still-fit (waitsOf q) (b .1)))
 
-pub joined-fit : (q : Queue) (ts : ℕ) → within 1 longest ts ≡ true → queueFit q ≡ true → queueFit (joined q ts) ≡ true
-unfolding joined queueFit isFull allOf waiting
-joined-fit q ts t h =
-    let b = both (leb (q .n) places) (allOf (within 1 longest) (waitsOf q)) h in
-    if-ind (λ (k : Queue). queueFit k ≡ true) (isFull q) _ _
+pub joined-fit : (q : Queue) (ts shortest : ℕ) → within shortest longest ts ≡ true → queueFit q shortest ≡ true → queueFit (joined q ts) shortest ≡ true
+unfolding joined isFull allOf waiting
+joined-fit q ts shortest t h =
+    let b = fit-tells q shortest h in
+    if-ind (λ (k : Queue). queueFit k shortest ≡ true) (isFull q) _ _
     (λ _. h)
-    (λ f. laid-fit (waitsOf q ++ ts ∷ [])
+    (λ f. laid-fit (waitsOf q ++ ts ∷ []) shortest
     (omega (arith, length-append (waitsOf q) (ts ∷ []), leb-false places (waiting q) f))
-    (all-more (within 1 longest) (waitsOf q) (ts ∷ []) (b .1) (and-intro t refl)))
+    (all-more (within shortest longest) (waitsOf q) (ts ∷ []) (b .1) (and-intro t refl)))

@@ -1,7 +1,7 @@
 -- What a queue holds: the waits of a list laid, after a tick, after one joined; and what the number n tells of them where
 -- the queue has its eight places. Assumes nothing.
 use mathlib.Core.Path.{_≡_, refl, sym, ap, _∙_}
-use mathlib.Core.Bool.{Bool, true, false}
+use mathlib.Core.Bool.{Bool, true, false, not}
 use mathlib.Core.List.{List, [], _∷_, _++_, map}
 use Prim.Native.Nat.{ℕ, suc, _+_, _≤_, min}
 use native.Mathlib.Omega.{arith}
@@ -9,7 +9,7 @@ use lib.Dec.{eqb, ltb, leb}
 use lib.ListN.{length, take, replicate, length-append, length-take, length-map}
 use lib.Seq.{take-append-seam}
 use borrow.Author.Tests.{eq-eqb, ne-eqb, eqb-true, eqb-false, le-ltb, le-leb, lt-leb, leb-true, leb-false}
-use Rattle.laws.specs.Choice.{if_then_else_}
+use Rattle.laws.specs.Choice.{if_then_else_, bit}
 use Rattle.laws.proofs.Tests.{by-cases}
 use Rattle.lists.specs.Each.{anyOf, without}
 use Rattle.lists.proofs.Each.{one-less, take-counted}
@@ -62,6 +62,13 @@ one-more q ts h = rw (waits-joined q ts h) (length-append (waitsOf q) (ts ∷ []
 pub none-joins : (q : Queue) (ts : ℕ) → isFull q ≡ true → joined q ts ≡ q
 unfolding joined
 none-joins q ts h = rw h
+
+-- both at once
+pub joined-waiting : (q : Queue) (ts : ℕ) → waiting (joined q ts) ≡ waiting q + bit (not (isFull q))
+joined-waiting q ts =
+    by-cases (isFull q)
+    (λ h. rw (none-joins q ts h, h) (omega arith))
+    (λ h. rw h (one-more q ts h))
 
 -- ---- the number n
 

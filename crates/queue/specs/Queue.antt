@@ -46,6 +46,6 @@ oneEnds q = anyOf ended (map fallen (waitsOf q))
 unfoldable pub joined : Queue → ℕ → Queue
 joined q ts = if isFull q then q else laid (waitsOf q ++ ts ∷ [])
 
--- "at most 8 waits of 1 to 9,999"
-unfoldable pub queueFit : Queue → Bool
-queueFit q = leb (q .n) places && allOf (within 1 longest) (waitsOf q)
+-- "at most 8 waits of 1 to 9,999": there 1 is the shortest; for delays, "other times 0 to 9,999", it is 0
+unfoldable pub queueFit : Queue → ℕ → Bool
+queueFit q shortest = leb (q .n) places && allOf (within shortest longest) (waitsOf q)

@@ -92,8 +92,9 @@ impl Queue {
         }
     }
 
-    pub fn fit(self) -> bool
-        ensures { λ r. ⌜ r ≡ queueFit self ⌝ }
+    // No more than there are places, each from the shortest to the longest time.
+    pub fn fit(self, shortest: u64) -> bool
+        ensures { λ r. ⌜ r ≡ queueFit self shortest ⌝ }
     {
         if self.n == 0 {
             return true;
@@ -106,7 +107,7 @@ impl Queue {
         let mut i: usize = 0;
         while i < n {
             let wait = waits[i];
-            if !((1 <= wait) & (wait <= LONGEST)) {
+            if !((shortest <= wait) & (wait <= LONGEST)) {
                 return false;
             }
             i += 1;

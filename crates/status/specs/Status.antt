@@ -26,10 +26,14 @@ plainError = 0
 abbrev pub unsafeError : ℕ
 unsafeError = 1
 
--- "error known here": none, 0, 1, and those of `errorFor`
+-- 02, T-04: "A change 0 to 1 with eight carried, ended ones included, pauses the line at once with error 7"
+abbrev pub ninthError : ℕ
+ninthError = 7
+
+-- "error known here": none, 0, 1, those of `errorFor`, and 7
 unfoldable pub errorKnown : ℕ → Bool
 errorKnown e =
-    eqb e noError || eqb e plainError || eqb e unsafeError || eqb e 2 || eqb e 5 || eqb e 6
+    eqb e noError || eqb e plainError || eqb e unsafeError || eqb e 2 || eqb e 5 || eqb e 6 || eqb e ninthError
 
 -- "error 2 for two-on, 5 foreign, 6 crash, 0 a grade"
 unfoldable pub errorFor : ℕ → ℕ

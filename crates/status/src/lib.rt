@@ -11,7 +11,7 @@ pub const PAUSED: u64 = 2;
 
 pub const EMERGENCY: u64 = 3;
 
-// The errors: a stop while busy or a grade that stops, a required input off, two-on, foreign, crash.
+// The errors: a stop while busy or a grade that stops, a required input off, two-on, foreign, crash, a ninth foreign signal.
 pub const PLAIN: u64 = 0;
 
 pub const UNSAFE: u64 = 1;
@@ -22,6 +22,8 @@ pub const FOREIGN: u64 = 5;
 
 pub const CRASH: u64 = 6;
 
+pub const NINTH_SIGNAL: u64 = 7;
+
 pub fn error_known(error: u64) -> bool
     ensures { λ r. ⌜ r ≡ errorKnown error ⌝ }
 {
@@ -31,6 +33,7 @@ pub fn error_known(error: u64) -> bool
         | (error == TWO_ON)
         | (error == FOREIGN)
         | (error == CRASH)
+        | (error == NINTH_SIGNAL)
 }
 
 // The error of a line that this verdict, 1 (LoLo) to 8 (crash), stops.

@@ -1,10 +1,11 @@
-//! Reference of the belt checkweigher line: document 01 in plain Rust.
+//! Reference of the belt checkweigher line: document 01, with what landed of 02, in plain Rust.
 //!
-//! It is written from the paper alone, to be compared byte for byte with
+//! It is written from the papers alone, to be compared byte for byte with
 //! another program and to be the baseline of its speed. Its line and memory
 //! are its own and always fit, so refusal 8 (memory) cannot occur in it.
 
 pub mod event;
+pub mod foreign;
 pub mod generator;
 pub mod line;
 pub mod memory;

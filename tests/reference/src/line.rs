@@ -1,6 +1,7 @@
 //! The line: its record, the reply, and every event but the sample.
 
 use crate::event::{is_code, Event, Settings, Setup};
+use crate::foreign::Foreign;
 use crate::memory::Memory;
 use crate::refusal::Refusal;
 use crate::sorter::Sorter;
@@ -21,14 +22,6 @@ pub enum Item {
     None,
     Waiting { left: i64 },
     Averaging { left: i64, sum: i64 },
-}
-
-/// The foreign signal: none, on its way, or flagged for the next verdict.
-#[derive(Clone, Copy, Debug, PartialEq, Eq)]
-pub enum Foreign {
-    None,
-    Delay { left: i64 },
-    Flag,
 }
 
 #[derive(Clone, Debug)]
@@ -89,7 +82,7 @@ impl Line {
             foreign_level: 0,
             gross: 0,
             safety: 255,
-            foreign: Foreign::None,
+            foreign: Foreign::default(),
             item: Item::None,
             sorter: Sorter::default(),
             error: None,
@@ -129,7 +122,7 @@ impl Line {
     }
 
     /// Entering status 0 or 3: an item in hand is abandoned, the queue
-    /// emptied, the sorter off, the error none. A foreign signal is kept.
+    /// emptied, the sorter off, the error none. Foreign signals are kept.
     pub(crate) fn rest(&mut self, status: Status) -> Done {
         let abandoned = self.item != Item::None;
         self.status = status;

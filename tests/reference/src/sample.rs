@@ -1,7 +1,7 @@
 //! The sample: one tick of 10 ms, its seven steps in order.
 
 use crate::event::Sample;
-use crate::line::{Done, Foreign, Item, Line, Status};
+use crate::line::{Done, Item, Line, Status};
 use crate::memory::Memory;
 use crate::refusal::Refusal;
 use crate::tally::nearest;
@@ -22,7 +22,10 @@ impl Line {
             return Ok(Done::default());
         }
         self.sorter.tick(self.setup.to); // step 4
-        self.take_foreign(foreign_change); // step 5
+        if !self.foreign.tick(foreign_change, self.setup.tf) {
+            self.pause(7); // a ninth signal, after step 5 and before step 6
+            return Ok(Done::default());
+        }
         let weighed = self.weigh(memory); // step 6
         if edge && self.status == Status::Running {
             return Ok(self.detect(memory, weighed)); // step 7
@@ -59,17 +62,6 @@ impl Line {
             return Some(self.rest(Status::Stopped));
         }
         (self.status != Status::Running).then(Done::default)
-    }
-
-    /// Step 5: a change is ignored when a delay or a flag is found, also
-    /// when the delay has only now become the flag.
-    fn take_foreign(&mut self, change: bool) {
-        self.foreign = match self.foreign {
-            Foreign::None if change => Foreign::after(self.setup.tf),
-            Foreign::None => Foreign::None,
-            Foreign::Delay { left } => Foreign::after(left - 1),
-            Foreign::Flag => Foreign::Flag,
-        };
     }
 
     /// Step 6: the item in hand waits, is averaged, and on the last tick judged.
@@ -115,12 +107,8 @@ impl Line {
             return Done { outcome: Done::DISMISSED, ..Done::default() };
         }
         let net = m - settings.tare;
-        let due = if self.foreign == Foreign::Flag {
-            self.foreign = Foreign::None;
-            Verdict::Foreign
-        } else {
-            Verdict::grade(net, settings)
-        };
+        let grade = Verdict::grade(net, settings);
+        let due = if self.foreign.use_up() { Verdict::Foreign } else { grade };
         if due.is_in(self.setup.sort) && self.sorter.is_full() {
             return self.give(memory, Verdict::Crash, 0);
         }
@@ -140,15 +128,5 @@ impl Line {
         let tallied = tally.add(verdict, net);
         self.kept = tallied.then_some(before);
         Done { detected: false, outcome: verdict as i64, net, tallied }
-    }
-}
-
-impl Foreign {
-    /// The signal with a delay of so many ticks left; 0 is the flag.
-    fn after(left: i64) -> Foreign {
-        match left {
-            0 => Foreign::Flag,
-            left => Foreign::Delay { left },
-        }
     }
 }

@@ -10,6 +10,8 @@ pub struct Belt {
     /// Ticks until the sensor changes.
     left: i64,
     weight: i64,
+    /// Ticks left of a burst of foreign signals.
+    burst: i64,
 }
 
 impl Belt {
@@ -23,9 +25,25 @@ impl Belt {
             }
         }
         self.left -= 1;
-        let turn = if self.foreign == 0 { 20 } else { 400 };
+        let turn = self.turn(random);
         if random.chance(turn) {
             self.foreign = 1 - self.foreign;
+        }
+    }
+
+    /// How often the foreign level changes: now and then in bursts, more than are carried.
+    fn turn(&mut self, random: &mut Random) -> i64 {
+        if random.chance(2) {
+            self.burst = random.between(10, 40);
+        }
+        if self.burst > 0 {
+            self.burst -= 1;
+            return 900;
+        }
+        if self.foreign == 0 {
+            10
+        } else {
+            400
         }
     }
 

@@ -84,7 +84,7 @@ fn an_unsafe_sample_on_a_paused_line_changes_no_error() {
 }
 
 #[test]
-fn a_foreign_flag_outlives_stop_emergency_and_setup() {
+fn an_ended_foreign_signal_outlives_stop_emergency_and_setup() {
     let mut bench = Bench::running("");
     bench.foreign_pulse();
     bench.check("CSTD", "status=0");
@@ -154,7 +154,7 @@ fn a_delay_does_not_fall_on_the_tick_that_starts_it() {
 }
 
 #[test]
-fn a_flag_set_in_step_5_counts_in_step_6() {
+fn a_signal_that_ends_in_step_5_counts_in_step_6() {
     let mut bench = Bench::running("tf=0");
     bench.tick("sensor=1", "detected=1");
     bench.tick("foreign=1 gross=1000", "outcome=6");
@@ -175,23 +175,7 @@ fn a_place_that_step_4_frees_is_free_in_step_6() {
 }
 
 #[test]
-fn a_change_that_finds_a_flag_or_delay_is_ignored() {
-    let mut bench = Bench::running("tf=0");
-    bench.foreign_pulse();
-    bench.tick("sensor=1", "detected=1");
-    bench.tick("foreign=1 gross=1000", "outcome=6");
-    bench.weigh(1000, "outcome=3");
-    let mut bench = Bench::running("tf=4");
-    bench.foreign_pulse();
-    bench.foreign_pulse();
-    bench.tick("sensor=1", "detected=1");
-    bench.tick("foreign=1 gross=1000", "outcome=6");
-    bench.ticks(9, "", "outcome=0");
-    bench.weigh(1000, "outcome=3");
-}
-
-#[test]
-fn a_dismissed_box_leaves_the_flag_and_the_chance_to_cancel() {
+fn a_dismissed_box_leaves_the_signal_and_the_chance_to_cancel() {
     let mut bench = Bench::running("");
     bench.weigh(1000, "outcome=3 tallied=1");
     bench.foreign_pulse();
@@ -202,7 +186,7 @@ fn a_dismissed_box_leaves_the_flag_and_the_chance_to_cancel() {
 }
 
 #[test]
-fn a_two_on_verdict_leaves_the_flag() {
+fn a_two_on_verdict_leaves_the_signal() {
     let mut bench = Bench::running("ta=3");
     bench.foreign_pulse();
     bench.tick("sensor=1", "detected=1");
@@ -215,7 +199,7 @@ fn a_two_on_verdict_leaves_the_flag() {
 }
 
 #[test]
-fn a_foreign_verdict_that_becomes_crash_has_used_the_flag_up() {
+fn a_foreign_verdict_that_becomes_crash_has_used_the_signal_up() {
     let mut bench = Bench::running("sort=36 ts=999");
     for _ in 0..8 {
         bench.weigh(1000, "outcome=3");

@@ -141,6 +141,126 @@ fn full((heavy, light): (i64, i64)) -> Tally {
     tally
 }
 
+/// Signals on so many ticks, each with one tick of level 0 behind it.
+fn signals(bench: &mut Bench, count: usize) {
+    for _ in 0..count {
+        bench.foreign_pulse();
+    }
+}
+
+/// T-04: each change starts a delay of its own, and each ended signal is one foreign verdict.
+#[test]
+fn each_signal_meets_its_own_box() {
+    let mut bench = Bench::running("tf=6");
+    bench.foreign_pulse();
+    bench.weigh(1000, "outcome=3");
+    bench.foreign_pulse();
+    bench.weigh(1000, "outcome=6");
+    bench.weigh(1000, "outcome=3");
+    bench.weigh(1000, "outcome=6");
+    bench.weigh(1000, "outcome=3");
+    let mut bench = Bench::running("");
+    signals(&mut bench, 8);
+    for _ in 0..8 {
+        bench.weigh(1000, "outcome=6 error=none");
+    }
+    bench.weigh(1000, "outcome=3");
+}
+
+/// T-04: a signal keeps the tf of its start, and the delay 0 ends before an older, longer one.
+#[test]
+fn a_signal_keeps_the_delay_of_its_start() {
+    let mut bench = Bench::running("tf=9");
+    bench.foreign_pulse();
+    bench.check("CSTD", "status=0");
+    bench.check(&setup("tf=0"), "status=0");
+    bench.check("COPR", "status=1");
+    bench.tick("sensor=1 foreign=1", "detected=1");
+    bench.tick("gross=1000", "outcome=6");
+    bench.weigh(1000, "outcome=3");
+    bench.ticks(3, "", "outcome=0");
+    bench.weigh(1000, "outcome=6");
+    bench.weigh(1000, "outcome=3");
+}
+
+/// T-04: a ninth signal pauses with error 7 and is not carried; ended ones count. No stop bit is asked.
+#[test]
+fn a_ninth_signal_pauses_with_error_7() {
+    for tf in [0, 9_999] {
+        let mut bench = Bench::running(&format!("tf={tf}"));
+        signals(&mut bench, 8);
+        bench.tick("foreign=1", "status=2 error=7 busy=0 conveyor=0 outcome=0");
+        bench.check("CNOP", "status=2 error=7");
+        bench.check("COPR", "status=1 error=none");
+        bench.tick("foreign=1", "status=1 error=none");
+        bench.tick("foreign=0", "status=1");
+        bench.tick("foreign=1", "status=2 error=7");
+        bench.check("CRER", "status=2 error=none");
+    }
+    let mut bench = Bench::running("");
+    signals(&mut bench, 8);
+    bench.tick("foreign=1", "status=2 error=7");
+    bench.check("CSTD", "status=0 error=none");
+    bench.check("COPR", "status=1");
+    for _ in 0..8 {
+        bench.weigh(1000, "outcome=6");
+    }
+    bench.weigh(1000, "outcome=3");
+}
+
+/// T-04: error 7 comes after step 5 and before step 6: the sorter runs, the item keeps ticks and sum, an edge is lost.
+#[test]
+fn error_7_ends_the_tick_before_step_6() {
+    let mut bench = Bench::running("ta=2 tf=20 sort=32 ts=20 to=9");
+    bench.tick("sensor=1", "detected=1");
+    bench.tick("gross=1000", "outcome=0");
+    bench.tick("gross=1000", "outcome=3 busy=1");
+    signals(&mut bench, 8);
+    bench.tick("sensor=1", "detected=1");
+    bench.tick("sensor=1 gross=1000", "outcome=0 sorter=0");
+    bench.tick("sensor=1 foreign=1 gross=9000", "status=2 error=7 outcome=0 busy=1");
+    bench.ticks(3, "sensor=1 gross=9000", "status=2 error=7 outcome=0");
+    bench.check("COPR", "status=1");
+    bench.tick("sensor=1 gross=1002", "outcome=3 net=1001 sorter=1");
+    bench.tick("sensor=0", "detected=0");
+    // the verdict's own tick, with an ended signal there to use up; and an edge
+    let mut bench = Bench::running("ta=2");
+    signals(&mut bench, 8);
+    bench.tick("sensor=1", "detected=1");
+    bench.tick("gross=1000", "outcome=0");
+    bench.tick("foreign=1 gross=1000", "status=2 error=7 outcome=0 busy=1");
+    bench.check("COPR", "status=1");
+    bench.tick("gross=1000", "outcome=6 error=none");
+    bench.tick("foreign=1", "status=1");
+    bench.tick("sensor=1", "detected=1");
+    bench.tick("foreign=1 sensor=1", "status=2 error=7");
+    bench.check("CSTD", "outcome=10");
+    bench.check("COPR", "status=1");
+    bench.tick("sensor=0", "detected=0");
+    bench.tick("sensor=1 foreign=1", "status=2 error=7 detected=0 busy=0");
+    bench.check("COPR", "status=1");
+    bench.tick("sensor=1", "detected=0");
+}
+
+/// T-04: a ninth change on a sample that ended earlier is lost without error 7; a crash uses its signal up.
+#[test]
+fn a_ninth_change_on_an_ended_sample_is_lost() {
+    let mut bench = Bench::running("need=1 sort=36 ts=999");
+    signals(&mut bench, 8);
+    bench.tick("foreign=1 safety=0", "status=2 error=1");
+    bench.tick("", "status=2 error=1");
+    bench.tick("foreign=1", "status=2 error=1");
+    bench.check("COPR", "status=1");
+    bench.tick("foreign=1", "status=1 error=none");
+    for _ in 0..8 {
+        bench.weigh(1000, "outcome=6");
+    }
+    bench.weigh(1000, "outcome=8");
+    bench.foreign_pulse();
+    bench.weigh(1000, "outcome=8");
+    bench.weigh(800, "outcome=1");
+}
+
 /// T-07: 3 while running, 9 in emergency, 10 for a setup while paused; 2 comes before them, 4, 5 and 6 behind.
 #[test]
 fn why_the_status_refuses() {

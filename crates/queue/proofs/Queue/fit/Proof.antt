@@ -15,12 +15,12 @@ use Rattle.queue.proofs.Queue.fit.Statement.{statement}
 use Rattle.queue.proofs.Queue.fit.Tie as tie
 
 abbrev Inv-loop : tie.InvT-loop
-Inv-loop waits n i₀ i =
+Inv-loop shortest waits n i₀ i =
     (length waits ≡ places) × (n ≤ places) × (i ≤ n)
-    × (allOf (within 1 longest) (take n waits) ≡ allOf (within 1 longest) (drop i (take n waits)))
+    × (allOf (within shortest longest) (take n waits) ≡ allOf (within shortest longest) (drop i (take n waits)))
 
 abbrev μ-loop : tie.MeasureT-loop
-μ-loop waits n i₀ i = n - i
+μ-loop shortest waits n i₀ i = n - i
 
 returns : tie.Need-returns Inv-loop μ-loop
 unfolding queueFit waitsOf allOf
@@ -43,8 +43,9 @@ returns-3 : tie.Need-returns-3 Inv-loop μ-loop
 unfolding queueFit waitsOf
 returns-3 c =
     let l = c .before .before .loop in
-    let q = c .before .before .before .before .before .before .before .before .args .self in
-    let next = all-next (within 1 longest) (q .n) (q .waits) (l .i) 0 (omega arith) (omega arith) (not-true _ (c .if3 .taken)) in
+    let a = c .before .before .before .before .before .before .before .before .args in
+    let q = a .self in
+    let next = all-next (within (a .shortest) longest) (q .n) (q .waits) (l .i) 0 (omega arith) (omega arith) (not-true _ (c .if3 .taken)) in
     simp (le-leb (q .n) places (omega arith), l .inv .3 ∙ next)
 
 add-i : tie.Need-add-i Inv-loop μ-loop
@@ -56,17 +57,19 @@ loop-less c = omega arith
 loop-again : tie.Need-loop-again Inv-loop μ-loop
 loop-again c =
     let l = c .before .before .loop in
-    let q = c .before .before .before .before .before .before .before .before .args .self in
-    let next = all-next (within 1 longest) (q .n) (q .waits) (l .i) 0 (omega arith) (omega arith) (not-false _ (c .if3 .left)) in
+    let a = c .before .before .before .before .before .before .before .before .args in
+    let q = a .self in
+    let next = all-next (within (a .shortest) longest) (q .n) (q .waits) (l .i) 0 (omega arith) (omega arith) (not-false _ (c .if3 .left)) in
     (l .inv .0, l .inv .1, omega arith, l .inv .3 ∙ next)
 
 returns-4 : tie.Need-returns-4 Inv-loop μ-loop
 unfolding queueFit waitsOf
 returns-4 c =
     let l = c .before .loop in
-    let q = c .before .before .before .before .before .before .before .args .self in
+    let a = c .before .before .before .before .before .before .before .args in
+    let q = a .self in
     let i : l .i ≡ q .n = omega arith in
-    simp (le-leb (q .n) places (omega arith), rw i at (l .inv .3), all-end (within 1 longest) (q .n) (q .waits))
+    simp (le-leb (q .n) places (omega arith), rw i at (l .inv .3), all-end (within (a .shortest) longest) (q .n) (q .waits))
 
 pub fit-spec : {M : Type 1} → statement M
 fit-spec =

@@ -1,0 +1,50 @@
+-- A sample is a running tick, with steps 4 to 7, or it leaves the foreign signals as they are and gives no verdict. Assumes
+-- nothing.
+use mathlib.Core.Path.{_≡_, refl}
+use mathlib.Core.Bool.{Bool, true, false, _&&_}
+use Prim.Native.Nat.{_≤_}
+use native.Mathlib.Omega.{arith}
+use lib.Dec.{eqb}
+use borrow.Author.Tests.{eqb-true, eqb-false, eq-eqb, ne-eqb}
+use Rattle.laws.proofs.Tests.{both, by-cases}
+use Rattle.mask.specs.Bits.{lowestOff}
+use Rattle.settings.specs.declared.Settings.{Settings}
+use Rattle.event.specs.declared.Sample.{Sample}
+use Rattle.tally.specs.Tally.{isVerdict}
+use Rattle.status.specs.Status.{stopped, running, emergency}
+use Rattle.line.specs.Line.{isRunning}
+use Rattle.line.specs.Effect.{halted, halting}
+use Rattle.line.specs.Sample.{step1, step2, step3, guarded, fromStep3, runningTick, sampled, tickOf}
+use Rattle.line.specs.declared.line.Line.{Line}
+use Rattle.line.specs.declared.effect.Effect.{Effect}
+use Rattle.claim.proofs.Events.{halting-quiet}
+
+-- the test of a sample on a line, in the words of steps 2 and 3
+abbrev pub ticks : Line → Sample → Bool
+ticks l s = eqb (s .emergency) 0 && isRunning l && eqb (lowestOff (l .setup .need) (s .safety)) 0
+
+pub record Quiet (l : Line) (x : Effect) : Type 0 where
+  pub foreign : x .line .foreign ≡ l .foreign
+  pub verdict : isVerdict (x .outcome) ≡ false
+
+pub tick-told : (l : Line) (a : Settings) (s : Sample) → ticks l s ≡ true → sampled l a s ≡ runningTick (step1 l s) (tickOf l a s)
+unfolding sampled fromStep3 step1 step2 step3 guarded
+tick-told l a s h =
+    let n = both (eqb (s .emergency) 0 && isRunning l) (eqb (lowestOff (l .setup .need) (s .safety)) 0) h in
+    let b = both (eqb (s .emergency) 0) (isRunning l) (n .0) in
+    let z : s .emergency ≡ 0 = eqb-true (s .emergency) 0 (b .0) in
+    let r : l .status ≡ running = eqb-true (l .status) running (b .1) in
+    rw (ne-eqb (s .emergency) 1 (λ e. omega (arith, z, e)), ne-eqb (l .status) emergency (λ e. omega (arith, r, e)), n .1, b .1)
+
+pub quiet-told : (l : Line) (a : Settings) (s : Sample) → s .emergency ≤ 1 → ticks l s ≡ false → Quiet l (sampled l a s)
+unfolding sampled fromStep3 step1 step2 step3 guarded halting halted
+quiet-told l a s low n =
+    by-cases (eqb (s .emergency) 1)
+    (λ h. rw h (record { foreign = refl; verdict = halting-quiet (step1 l s) emergency }))
+    (λ h. by-cases (eqb (l .status) emergency)
+    (λ g. rw (h, g) (record { foreign = refl; verdict = halting-quiet (step1 l s) stopped }))
+    (λ g. by-cases (eqb (l .status) running)
+    (λ r. let z : eqb (s .emergency) 0 ≡ true = eq-eqb (s .emergency) 0 (omega (arith, eqb-false (s .emergency) 1 h)) in
+    let t : eqb (lowestOff (l .setup .need) (s .safety)) 0 ≡ false = rw (z, r) at n in
+    rw (h, g, r, t) (record { foreign = refl; verdict = refl }))
+    (λ r. rw (h, g, r) (record { foreign = refl; verdict = refl }))))
