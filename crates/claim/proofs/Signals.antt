@@ -7,10 +7,11 @@ use native.Mathlib.Omega.{arith}
 use lib.Dec.{eqb, leb}
 use lib.IntN.{ℤ}
 use lib.ListN.{length}
-use borrow.Author.Tests.{eqb-true, leb-false}
+use borrow.Author.Tests.{eqb-true, le-leb, leb-false}
 use Rattle.laws.specs.Choice.{bit}
 use Rattle.laws.proofs.Tests.{if-ind, by-cases, never}
 use Rattle.settings.specs.declared.Settings.{Settings}
+use Rattle.time.specs.Time.{longest, isTime}
 use Rattle.queue.specs.Queue.{places}
 use Rattle.detector.specs.Foreign.{carried, eightCarried}
 use Rattle.tally.specs.Tally.{isVerdict}
@@ -19,7 +20,7 @@ use Rattle.event.specs.Event.{eventRanged}
 use Rattle.event.specs.declared.Sample as sample
 use Rattle.event.specs.declared.Event.{Event}
 use Rattle.event.specs.declared.Event.the-variants.{Sample, Run, Stop, Emergency, Recall, Cancel, ClearCode, ClearAll, ErrorReset, NoOperation, Setup, Store}
-use Rattle.event.proofs.Facts.{in-range}
+use Rattle.event.proofs.Facts.{timers, in-range}
 use Rattle.line.specs.Line.{isRunning, busy}
 use Rattle.status.specs.Status.{stopped, emergency}
 use Rattle.line.specs.Effect.{halted, halting, replied}
@@ -31,7 +32,8 @@ use Rattle.line.specs.Refusal.{refusalOf}
 use Rattle.line.specs.Step.{accepted, refused, stepOf, outOn}
 use Rattle.line.specs.declared.line.Line.{Line}
 use Rattle.line.specs.declared.effect.Effect.{Effect}
-use Rattle.line.proofs.Accepted.{accepted-tells}
+use Rattle.line.proofs.Accepted.{accepted-tells, sound-tells}
+use Rattle.line.proofs.Facts.{fit-tells}
 use Rattle.line.proofs.Signals.{usedOf, tick-counts}
 use Rattle.book.specs.Boxes.{outcomeOf}
 use Rattle.claim.specs.Claim.{refusalIn}
@@ -74,16 +76,16 @@ recorded-shows x ts =
     (λ _. record { foreign = refl; outcome = refl; accepted = refl })
     (λ _. record { foreign = refl; outcome = refl; accepted = refl })
 
-sample-kept : (l : Line) (a : Settings) (ts : List ℤ) (s : sample.Sample) → s .emergency ≤ 1 → Kept l (Sample s) (recorded (sampled l a s) ts)
+sample-kept : (l : Line) (a : Settings) (ts : List ℤ) (s : sample.Sample) → isTime (l .setup .tf) ≡ true → s .emergency ≤ 1 → Kept l (Sample s) (recorded (sampled l a s) ts)
 unfolding isRunningTick takenBy usedUpBy endedAt step1
-sample-kept l a ts s low =
+sample-kept l a ts s time low =
     let o = recorded (sampled l a s) ts in
     let shows = recorded-shows (sampled l a s) ts in
     let is : isRunningTick l (Sample s) (o .reply) ≡ ticks l s = rw (shows .accepted) refl in
     by-cases (ticks l s)
     (λ t. let told : sampled l a s ≡ runningTick (step1 l s) (tickOf l a s) = tick-told l a s t in
     record {
-      count = rw (is ∙ t, shows .foreign, shows .outcome, told) (tick-counts (step1 l s) (tickOf l a s));
+      count = rw (is ∙ t, shows .foreign, shows .outcome, told) (tick-counts (step1 l s) (tickOf l a s) time);
       still = λ n. never (sym n ∙ is ∙ t);
     })
     (λ t. let quiet : Quiet l (sampled l a s) = quiet-told l a s low t in
@@ -100,20 +102,20 @@ cleared-foreign : (l : Line) (c : ℕ) → codeCleared l c .foreign ≡ l .forei
 unfolding codeCleared
 cleared-foreign l c = if-ind (λ (k : Line). k .foreign ≡ l .foreign) (eqb c (l .code)) _ _ (λ _. refl) (λ _. refl)
 
-accepted-kept : (l : Line) (a : Settings) (ts : List ℤ) (e : Event) → eventRanged e ≡ true → Kept l e (accepted l a ts e)
+accepted-kept : (l : Line) (a : Settings) (ts : List ℤ) (e : Event) → isTime (l .setup .tf) ≡ true → eventRanged e ≡ true → Kept l e (accepted l a ts e)
 unfolding accepted eventRanged isRunningTick replied ran alarmed halting halted
-accepted-kept l a ts (Sample s) h = sample-kept l a ts s (in-range s h .emergency)
-accepted-kept l a ts Run h = quiet-kept l Run _ refl refl refl
-accepted-kept l a ts Stop h = quiet-kept l Stop _ refl (stop-foreign l) (stop-quiet l)
-accepted-kept l a ts Emergency h = quiet-kept l Emergency _ refl refl (halting-quiet l emergency)
-accepted-kept l a ts (Recall c) h = quiet-kept l (Recall c) _ refl refl refl
-accepted-kept l a ts Cancel h = quiet-kept l Cancel _ refl refl refl
-accepted-kept l a ts (ClearCode c) h = quiet-kept l (ClearCode c) _ refl (cleared-foreign l c) refl
-accepted-kept l a ts ClearAll h = quiet-kept l ClearAll _ refl refl refl
-accepted-kept l a ts ErrorReset h = quiet-kept l ErrorReset _ refl refl refl
-accepted-kept l a ts NoOperation h = quiet-kept l NoOperation _ refl refl refl
-accepted-kept l a ts (Setup s) h = quiet-kept l (Setup s) _ refl refl refl
-accepted-kept l a ts (Store c s) h = quiet-kept l (Store c s) _ refl refl refl
+accepted-kept l a ts (Sample s) t h = sample-kept l a ts s t (in-range s h .emergency)
+accepted-kept l a ts Run t h = quiet-kept l Run _ refl refl refl
+accepted-kept l a ts Stop t h = quiet-kept l Stop _ refl (stop-foreign l) (stop-quiet l)
+accepted-kept l a ts Emergency t h = quiet-kept l Emergency _ refl refl (halting-quiet l emergency)
+accepted-kept l a ts (Recall c) t h = quiet-kept l (Recall c) _ refl refl refl
+accepted-kept l a ts Cancel t h = quiet-kept l Cancel _ refl refl refl
+accepted-kept l a ts (ClearCode c) t h = quiet-kept l (ClearCode c) _ refl (cleared-foreign l c) refl
+accepted-kept l a ts ClearAll t h = quiet-kept l ClearAll _ refl refl refl
+accepted-kept l a ts ErrorReset t h = quiet-kept l ErrorReset _ refl refl refl
+accepted-kept l a ts NoOperation t h = quiet-kept l NoOperation _ refl refl refl
+accepted-kept l a ts (Setup s) t h = quiet-kept l (Setup s) _ refl refl refl
+accepted-kept l a ts (Store c s) t h = quiet-kept l (Store c s) _ refl refl refl
 
 pub step-kept : (s : State) (e : Event) → Kept (s .line) e (outOn s e)
 unfolding stepOf isRunningTick
@@ -122,7 +124,9 @@ step-kept s e =
     let a = activeOf s in
     let n = refusalOf l (length (s .settings)) a (s .tallies) e in
     if-ind (Kept l e) (eqb n 0) _ _
-    (λ z. accepted-kept l a (s .tallies) e (accepted-tells l (length (s .settings)) a (s .tallies) e (eqb-true n 0 z) .ranged))
+    (λ z. let told = accepted-tells l (length (s .settings)) a (s .tallies) e (eqb-true n 0 z) in
+    let fit = fit-tells l (sound-tells l (length (s .settings)) a (s .tallies) e (told .sound) .line) in
+    accepted-kept l a (s .tallies) e (le-leb (l .setup .tf) longest (timers (l .setup) (fit .setup) .tf)) (told .ranged))
     (λ z. quiet-kept l e (refused l (s .tallies) n) (rw z refl) refl refl)
 
 -- ---- at most eight

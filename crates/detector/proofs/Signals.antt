@@ -11,7 +11,7 @@ use Rattle.laws.specs.Choice.{bit, within}
 use Rattle.laws.proofs.Tests.{both, and-intro, if-ind}
 use Rattle.lists.specs.Each.{anyOf, allOf, withoutFirst}
 use Rattle.lists.proofs.Each.{one-counted, first-less, first-keeps, map-keeps}
-use Rattle.time.specs.Time.{longest, fallen, ended}
+use Rattle.time.specs.Time.{longest, fallen, ended, isTime}
 use Rattle.queue.specs.Queue.{places, waiting, isEmpty, isFull, queueFit}
 use Rattle.queue.proofs.Waits.{waits-laid, waiting-is, waits-counted, joined-waiting}
 use Rattle.queue.proofs.Keeps.{laid-fit, joined-fit, fit-tells}
@@ -49,15 +49,15 @@ fallen-carried f =
     (λ _. refl)
     (λ _. carried-laid (map fallen (signalsOf f)) ∙ length-map (signalsOf f) fallen ∙ sym (carried-is f))
 
-signalled-carried : (f : Foreign) (tf : ℕ) → carried (signalled f tf) ≡ carried f + bit (not (eightCarried f))
+signalled-carried : (f : Foreign) (tf : ℕ) → isTime tf ≡ true → carried (signalled f tf) ≡ carried f + bit (not (eightCarried f))
 unfolding signalled carried signalsOf eightCarried isFull waiting
-signalled-carried f tf = joined-waiting (f .signals) tf
+signalled-carried f tf t = joined-waiting (f .signals) tf t
 
 -- a running tick carries one more where the level rose and fewer than eight were carried
-pub ticked-carried : (f : Foreign) (rises : Bool) (tf : ℕ) → carried (foreignTicked f rises tf) ≡ carried f + bit (rises && not (eightCarried f))
+pub ticked-carried : (f : Foreign) (rises : Bool) (tf : ℕ) → isTime tf ≡ true → carried (foreignTicked f rises tf) ≡ carried f + bit (rises && not (eightCarried f))
 unfolding foreignTicked eightCarried
-ticked-carried f true tf = signalled-carried (delaysFallen f) tf ∙ rw (fallen-carried f) refl
-ticked-carried f false tf = omega (arith, fallen-carried f)
+ticked-carried f true tf t = signalled-carried (delaysFallen f) tf t ∙ rw (fallen-carried f) refl
+ticked-carried f false tf t = omega (arith, fallen-carried f)
 
 -- one that is due and used up is carried no more
 pub used-carried : (f : Foreign) → due f ≡ true → carried (oldestUsed f) + 1 ≡ carried f

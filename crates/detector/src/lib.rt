@@ -1,12 +1,22 @@
 // The foreign detector, some boxes before the scale: the signals that are under way to it.
 ghost use mathlib.Core.Path.{_≡_};
+ghost use Rattle.time.specs.Time.{fallen};
 ghost use Rattle.detector.specs.Foreign.{eightCarried, due, delaysFallen, signalled, foreignTicked, oldestUsed, noSignal, foreignFit};
 use queue::Queue;
-use time::fallen;
 
 pub struct Foreign {
     // the delay left of each, in ticks, 0 to time::LONGEST; the oldest stands first. At 0 it has ended
     pub signals: Queue,
+}
+
+// A delay one tick further.
+fn nearer(delay: u16) -> u16
+    ensures { λ r. ⌜ r ≡ fallen delay ⌝ }
+{
+    if delay == 0 {
+        return 0;
+    }
+    delay - 1
 }
 
 impl Foreign {
@@ -36,10 +46,10 @@ impl Foreign {
         }
         let n = signals.waiting() as usize;
         let delays = signals.waits;
-        let mut left = [0u64; Queue::PLACES as usize];
+        let mut left = [0u16; Queue::PLACES as usize];
         let mut i: usize = 0;
         while i < n {
-            left[i] = fallen(delays[i]);
+            left[i] = nearer(delays[i]);
             i += 1;
         }
         Foreign {
@@ -94,7 +104,7 @@ impl Foreign {
         let signals = self.signals;
         let n = signals.waiting() as usize;
         let delays = signals.waits;
-        let mut left = [0u64; Queue::PLACES as usize];
+        let mut left = [0u16; Queue::PLACES as usize];
         let mut k: usize = 0;
         let mut i: usize = 0;
         while i < n {

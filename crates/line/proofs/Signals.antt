@@ -15,6 +15,7 @@ use Rattle.settings.specs.declared.Settings.{Settings}
 use Rattle.device.specs.Sorter.{full}
 use Rattle.detector.specs.Foreign.{carried, eightCarried, due, foreignTicked, oldestUsed}
 use Rattle.detector.proofs.Signals.{ticked-carried, used-carried}
+use Rattle.time.specs.Time.{isTime}
 use Rattle.item.specs.Item.{inHand}
 use Rattle.item.specs.declared.Item.the-variants.{None}
 use Rattle.item.specs.declared.Weighed.{Weighed}
@@ -114,11 +115,11 @@ seven-counts m e t u =
 
 -- ---- a running tick: one is taken in step 5, one may be used up in step 6
 
-pub tick-counts : (k : Line) (t : Tick)
+pub tick-counts : (k : Line) (t : Tick) → isTime (k .setup .tf) ≡ true
     → carried (k .foreign) + bit (t .rises && not (eightCarried (k .foreign)))
     ≡ carried (runningTick k t .line .foreign) + usedOf (due (foreignTicked (k .foreign) (t .rises) (k .setup .tf))) (runningTick k t .outcome)
 unfolding runningTick unlessNinth step4 step5
-tick-counts k t =
+tick-counts k t time =
     let m = step5 (step4 k) t in
-    sym (ticked-carried (k .foreign) (t .rises) (k .setup .tf))
+    sym (ticked-carried (k .foreign) (t .rises) (k .setup .tf) time)
     ∙ if-ind (Counts m) (ninthSignal k t) _ _ (λ _. omega arith) (λ _. seven-counts m (step6 m t) t (six-uses m t))

@@ -1,6 +1,6 @@
 -- What a queue keeps: its waits stay from 1 to 9,999 and at most eight. Assumes nothing.
 use mathlib.Core.Path.{_≡_, refl}
-use mathlib.Core.Bool.{true, false}
+use mathlib.Core.Bool.{Bool, true, false, _||_, not}
 use mathlib.Core.List.{List, [], _∷_, _++_, map}
 use Prim.Native.Nat.{ℕ, _≤_}
 use native.Mathlib.Omega.{arith}
@@ -11,7 +11,7 @@ use Rattle.laws.specs.Choice.{within}
 use Rattle.laws.proofs.Tests.{both, and-intro, if-ind}
 use Rattle.lists.specs.Each.{allOf, without}
 use Rattle.lists.proofs.Each.{all-more, without-short, without-keeps}
-use Rattle.time.specs.Time.{longest, fallen, ended}
+use Rattle.time.specs.Time.{longest, isTime, fallen, ended}
 use Rattle.queue.specs.Queue.{places, waitsOf, laid, waiting, isEmpty, isFull, queueTicked, joined, queueFit}
 use Rattle.queue.specs.declared.Queue.{Queue}
 use Rattle.queue.proofs.Waits.{waits-laid}
@@ -44,12 +44,16 @@ queue-ticked-fit q h =
     (λ _. h)
     (λ _. laid-fit (without ended fell) 1 few (without-keeps ended (within 1 longest) fallen still-fit (waitsOf q) (b .1)))
 
+or-false-left : (a b : Bool) → a || b ≡ false → a ≡ false
+or-false-left true b h = h
+or-false-left false b h = refl
+
 pub joined-fit : (q : Queue) (ts shortest : ℕ) → within shortest longest ts ≡ true → queueFit q shortest ≡ true → queueFit (joined q ts) shortest ≡ true
 unfolding joined isFull allOf waiting
 joined-fit q ts shortest t h =
     let b = fit-tells q shortest h in
-    if-ind (λ (k : Queue). queueFit k shortest ≡ true) (isFull q) _ _
+    if-ind (λ (k : Queue). queueFit k shortest ≡ true) (isFull q || not (isTime ts)) _ _
     (λ _. h)
     (λ f. laid-fit (waitsOf q ++ ts ∷ []) shortest
-    (omega (arith, length-append (waitsOf q) (ts ∷ []), leb-false places (waiting q) f))
+    (omega (arith, length-append (waitsOf q) (ts ∷ []), leb-false places (waiting q) (or-false-left (isFull q) _ f)))
     (all-more (within shortest longest) (waitsOf q) (ts ∷ []) (b .1) (and-intro t refl)))

@@ -13,7 +13,7 @@ use Rattle.laws.specs.Choice.{if_then_else_, bit}
 use Rattle.laws.proofs.Tests.{by-cases}
 use Rattle.lists.specs.Each.{anyOf, without}
 use Rattle.lists.proofs.Each.{one-less, take-counted}
-use Rattle.time.specs.Time.{fallen, ended}
+use Rattle.time.specs.Time.{isTime, fallen, ended}
 use Rattle.queue.specs.Queue.{places, waitsOf, laid, waiting, isEmpty, isFull, queueTicked, oneEnds, joined}
 use Rattle.queue.specs.declared.Queue.{Queue}
 
@@ -50,13 +50,13 @@ none-ends q h = ends-fewer q ∙ rw (empty-stays q h) (le-ltb (waiting q) (waiti
 
 -- ---- one joins
 
-pub waits-joined : (q : Queue) (ts : ℕ) → isFull q ≡ false → waitsOf (joined q ts) ≡ waitsOf q ++ ts ∷ []
+pub waits-joined : (q : Queue) (ts : ℕ) → isFull q ≡ false → isTime ts ≡ true → waitsOf (joined q ts) ≡ waitsOf q ++ ts ∷ []
 unfolding joined
-waits-joined q ts h = rw h (waits-laid _)
+waits-joined q ts h t = rw (h, t) (waits-laid _)
 
-pub one-more : (q : Queue) (ts : ℕ) → isFull q ≡ false → waiting (joined q ts) ≡ waiting q + 1
+pub one-more : (q : Queue) (ts : ℕ) → isFull q ≡ false → isTime ts ≡ true → waiting (joined q ts) ≡ waiting q + 1
 unfolding waiting
-one-more q ts h = rw (waits-joined q ts h) (length-append (waitsOf q) (ts ∷ []))
+one-more q ts h t = rw (waits-joined q ts h t) (length-append (waitsOf q) (ts ∷ []))
 
 -- a full queue takes none
 pub none-joins : (q : Queue) (ts : ℕ) → isFull q ≡ true → joined q ts ≡ q
@@ -64,11 +64,11 @@ unfolding joined
 none-joins q ts h = rw h
 
 -- both at once
-pub joined-waiting : (q : Queue) (ts : ℕ) → waiting (joined q ts) ≡ waiting q + bit (not (isFull q))
-joined-waiting q ts =
+pub joined-waiting : (q : Queue) (ts : ℕ) → isTime ts ≡ true → waiting (joined q ts) ≡ waiting q + bit (not (isFull q))
+joined-waiting q ts t =
     by-cases (isFull q)
     (λ h. rw (none-joins q ts h, h) (omega arith))
-    (λ h. rw h (one-more q ts h))
+    (λ h. rw h (one-more q ts h t))
 
 -- ---- the number n
 

@@ -1,12 +1,20 @@
 // A queue of waits: the first n places are taken, in the order in which the waits came. The others hold 0 and are not read.
+// A wait is a time, so sixteen bits hold it: a line is copied with each event.
 ghost use mathlib.Core.Path.{_≡_};
 ghost use mathlib.Core.List.{[]};
 ghost use Rattle.queue.specs.Queue.{laid, waiting, isEmpty, isFull, queueTicked, joined, queueFit};
 use time::LONGEST;
+use time::is_time;
 
 pub struct Queue {
-    pub waits: [u64; Queue::PLACES as usize],
+    pub waits: [u16; Queue::PLACES as usize],
     pub n: u64,
+}
+
+fn wide(wait: u16) -> u64
+    ensures { λ r. ⌜ r ≡ wait ⌝ }
+{
+    wait as u64
 }
 
 impl Queue {
@@ -17,7 +25,7 @@ impl Queue {
         ensures { λ r. ⌜ r ≡ laid [] ⌝ }
     {
         Queue {
-            waits: [0u64; Queue::PLACES as usize],
+            waits: [0u16; Queue::PLACES as usize],
             n: 0,
         }
     }
@@ -53,7 +61,7 @@ impl Queue {
         }
         let waits = self.waits;
         let n = self.waiting() as usize;
-        let mut left = [0u64; Queue::PLACES as usize];
+        let mut left = [0u16; Queue::PLACES as usize];
         let mut k: usize = 0;
         let mut i: usize = 0;
         while i < n {
@@ -70,22 +78,25 @@ impl Queue {
         }
     }
 
-    // One more wait, put last; a full queue takes none.
+    // One more wait, put last; a full queue takes none, and what is no time is none.
     pub fn joined(self, ts: u64) -> Queue
         ensures { λ r. ⌜ r ≡ joined self ts ⌝ }
     {
         if Queue::PLACES <= self.n {
             return self;
         }
+        if !is_time(ts) {
+            return self;
+        }
         let waits = self.waits;
         let n = self.n as usize;
-        let mut all = [0u64; Queue::PLACES as usize];
+        let mut all = [0u16; Queue::PLACES as usize];
         let mut i: usize = 0;
         while i < n {
             all[i] = waits[i];
             i += 1;
         }
-        all[n] = ts;
+        all[n] = ts as u16;
         Queue {
             waits: all,
             n: self.n + 1,
@@ -106,7 +117,7 @@ impl Queue {
         let n = self.n as usize;
         let mut i: usize = 0;
         while i < n {
-            let wait = waits[i];
+            let wait = wide(waits[i]);
             if !((shortest <= wait) & (wait <= LONGEST)) {
                 return false;
             }

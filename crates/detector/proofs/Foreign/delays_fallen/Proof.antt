@@ -31,11 +31,11 @@ loop-holds c =
     let f = c .before .before .before .before .before .args .self in
     (search needs, few-are f _ (c .before .waiting .ensures) (search needs), omega arith, refl)
 
-mul-fallen : tie.Need-mul-fallen Inv-loop μ-loop
-mul-fallen c = omega arith
+mul-nearer : tie.Need-mul-nearer Inv-loop μ-loop
+mul-nearer c = omega arith
 
-array-read-fallen : tie.Need-array-read-fallen Inv-loop μ-loop
-array-read-fallen c = omega arith
+array-read-nearer : tie.Need-array-read-nearer Inv-loop μ-loop
+array-read-nearer c = omega arith
 
 mul-left : tie.Need-mul-left Inv-loop μ-loop
 mul-left c = omega arith
@@ -53,7 +53,7 @@ loop-again : tie.Need-loop-again Inv-loop μ-loop
 loop-again c =
     let l = c .before .before .loop in
     let d = c .before .before .before .before .before .before .before .before .args .self .signals .waits in
-    (l .inv .0, l .inv .1, omega arith, rw (l .inv .3, c .fallen .ensures) (change-next places 0 fallen d (l .i) (omega arith) (omega arith)))
+    (l .inv .0, l .inv .1, omega arith, rw (l .inv .3, c .nearer .ensures) (change-next places 0 fallen d (l .i) (omega arith) (omega arith)))
 
 returns-2 : tie.Need-returns-2 Inv-loop μ-loop
 unfolding delaysFallen carrying laid
@@ -77,8 +77,8 @@ delays-fallen-spec =
     returns
     (search needs)
     loop-holds
-    mul-fallen
-    array-read-fallen
+    mul-nearer
+    array-read-nearer
     (search needs)
     mul-left
     array-write-left

@@ -2,7 +2,7 @@
 use borrow.Author.Needs.{needs}
 use borrow.Author.Tests.{le-leb, lt-leb, not-true, not-false}
 use mathlib.Core.Bool.{true, false}
-use mathlib.Core.Path.{_≡_, refl, _∙_}
+use mathlib.Core.Path.{_≡_, refl, sym, ap, _∙_}
 use Prim.Native.Nat.{_-_, _≤_}
 use native.Mathlib.Omega.{arith}
 use lib.ListN.{length, take, drop}
@@ -33,19 +33,19 @@ returns-2 c = simp (lt-leb _ _ (c .if2 .taken))
 loop-holds : tie.Need-loop-holds Inv-loop μ-loop
 loop-holds c = (search needs, omega arith, omega arith, refl)
 
-mul-wait : tie.Need-mul-wait Inv-loop μ-loop
-mul-wait c = omega arith
+mul-wide : tie.Need-mul-wide Inv-loop μ-loop
+mul-wide c = omega arith
 
-array-read-wait : tie.Need-array-read-wait Inv-loop μ-loop
-array-read-wait c = omega arith
+array-read-wide : tie.Need-array-read-wide Inv-loop μ-loop
+array-read-wide c = omega arith
 
 returns-3 : tie.Need-returns-3 Inv-loop μ-loop
 unfolding queueFit waitsOf
 returns-3 c =
-    let l = c .before .before .loop in
-    let a = c .before .before .before .before .before .before .before .before .args in
+    let l = c .before .before .before .loop in
+    let a = c .before .before .before .before .before .before .before .before .before .args in
     let q = a .self in
-    let next = all-next (within (a .shortest) longest) (q .n) (q .waits) (l .i) 0 (omega arith) (omega arith) (not-true _ (c .if3 .taken)) in
+    let next = all-next (within (a .shortest) longest) (q .n) (q .waits) (l .i) 0 (omega arith) (omega arith) (ap (within (a .shortest) longest) (sym (c .before .wide .ensures)) ∙ not-true _ (c .if3 .taken)) in
     simp (le-leb (q .n) places (omega arith), l .inv .3 ∙ next)
 
 add-i : tie.Need-add-i Inv-loop μ-loop
@@ -56,10 +56,10 @@ loop-less c = omega arith
 
 loop-again : tie.Need-loop-again Inv-loop μ-loop
 loop-again c =
-    let l = c .before .before .loop in
-    let a = c .before .before .before .before .before .before .before .before .args in
+    let l = c .before .before .before .loop in
+    let a = c .before .before .before .before .before .before .before .before .before .args in
     let q = a .self in
-    let next = all-next (within (a .shortest) longest) (q .n) (q .waits) (l .i) 0 (omega arith) (omega arith) (not-false _ (c .if3 .left)) in
+    let next = all-next (within (a .shortest) longest) (q .n) (q .waits) (l .i) 0 (omega arith) (omega arith) (ap (within (a .shortest) longest) (sym (c .before .wide .ensures)) ∙ not-false _ (c .if3 .left)) in
     (l .inv .0, l .inv .1, omega arith, l .inv .3 ∙ next)
 
 returns-4 : tie.Need-returns-4 Inv-loop μ-loop
@@ -80,8 +80,9 @@ fit-spec =
     returns
     returns-2
     loop-holds
-    mul-wait
-    array-read-wait
+    mul-wide
+    array-read-wide
+    (search needs)
     returns-3
     add-i
     loop-less

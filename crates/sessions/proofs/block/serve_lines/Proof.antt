@@ -113,7 +113,7 @@ nearer m i k j h e g = omega (arith, h, e, g)
 
 -- the bytes of a line: in a session the next fields lie behind them
 abbrev size-line : ℕ
-size-line = 440
+size-line = 344
 
 -- what a turn begins with
 pub record Turn (inp : List ℕ) (n n₁ n₃ : ℕ) (from : Memories) (bytes : List ℕ) : Type 0 where
