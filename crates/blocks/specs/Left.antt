@@ -1,4 +1,4 @@
--- What is left of the input in a buffer, and what a read puts behind it. Of a line of text that has begun the first 121 bytes are kept: a line over 120 bytes is refused whatever it holds.
+-- What is left of the input in a buffer, and what a read puts behind it. Of a line of text that has begun the longest line and one byte more are kept: a longer one is refused whatever it holds.
 use Prim.Native.Nat.{ℕ, zero, suc, _+_, _≤_, _<_}
 use mathlib.Core.Path.{_≡_}
 use mathlib.Core.Bool.{Bool, not}

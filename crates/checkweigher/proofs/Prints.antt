@@ -48,7 +48,7 @@ front-no-lf zero t h = no-more
 front-no-lf (suc k) [] h = h
 front-no-lf (suc k) (b ∷ t) h = let r = behind-lf b t h in before-lf b (take k t) (r .0) ∙ ap suc (front-no-lf k t (r .1))
 
--- ---- what is kept of it stands for all of it: a line over 120 bytes reads as other, whatever it holds
+-- ---- what is kept of it stands for all of it: a line over the longest reads as other, whatever it holds
 short : (t : List ℕ) → leb (length t) keptBytes ≡ true → take keptBytes t ≡ t
 short t y = take-all keptBytes t (leb-true (length t) keptBytes y)
 

@@ -15,7 +15,7 @@ use Rattle.event.specs.declared.Event.{Event}
 use Rattle.event.specs.declared.Event.the-variants.{Sample, Run, Stop, Emergency, Recall, Cancel, ClearCode, ClearAll, ErrorReset, NoOperation, Setup, Store}
 use Rattle.event.specs.declared.Setup as setup
 use Rattle.event.proofs.Facts.{in-range}
-use Rattle.device.specs.Sorter.{sorting}
+use Rattle.sorters.specs.Sorters.{anySorting}
 use Rattle.tally.specs.Tally.{emptyTally, tallyFit, isVerdict}
 use Rattle.tallies.proofs.Parts.{lies-there, written-is}
 use Rattle.tallies.specs.Memory.{withTally, zeros, talliesLength}
@@ -68,7 +68,7 @@ with-code l c f h =
       last = f .last;
       sensor = f .sensor;
       status = f .status;
-      sorter = f .sorter;
+      sorters = f .sorters;
       foreign = f .foreign;
       item = f .item;
       undo = nothing-fit;
@@ -77,7 +77,7 @@ with-code l c f h =
 no-error : (l : Line) → FitLine l → FitLine (withStatus l (l .status) noError)
 unfolding statusFit errorKnown busy
 no-error l f =
-    let idle = not ((eqb (l .status) stopped || eqb (l .status) emergency) && (inHand (l .item) || sorting (l .sorter))) in
+    let idle = not ((eqb (l .status) stopped || eqb (l .status) emergency) && (inHand (l .item) || anySorting (l .sorters))) in
     let a = both (leb (l .status) 3 && errorKnown (l .error) && (eqb (l .status) paused || eqb (l .error) noError)) idle (f .status) in
     let b = both (leb (l .status) 3 && errorKnown (l .error)) (eqb (l .status) paused || eqb (l .error) noError) (a .0) in
     let c = both (leb (l .status) 3) (errorKnown (l .error)) (b .0) in
@@ -87,7 +87,7 @@ no-error l f =
       last = f .last;
       sensor = f .sensor;
       status = and-intro (and-intro (and-intro (c .0) refl) (or-true (eqb (l .status) paused))) (a .1);
-      sorter = f .sorter;
+      sorters = f .sorters;
       foreign = f .foreign;
       item = f .item;
       undo = f .undo;
@@ -107,9 +107,9 @@ or-false-left false b h = refl
 stopped-empty : (l : Line) → statusFit l ≡ true → l .status ≡ stopped → inHand (l .item) ≡ false
 unfolding statusFit busy
 stopped-empty l h s =
-    let idle = not ((eqb (l .status) stopped || eqb (l .status) emergency) && (inHand (l .item) || sorting (l .sorter))) in
+    let idle = not ((eqb (l .status) stopped || eqb (l .status) emergency) && (inHand (l .item) || anySorting (l .sorters))) in
     let a = both (leb (l .status) 3 && errorKnown (l .error) && (eqb (l .status) paused || eqb (l .error) noError)) idle h in
-    or-false-left (inHand (l .item)) (sorting (l .sorter)) (not-true _ (rw s at (a .1)))
+    or-false-left (inHand (l .item)) (anySorting (l .sorters)) (not-true _ (rw s at (a .1)))
 
 status-known : (l : Line) → statusFit l ≡ true → l .status ≤ 3
 unfolding statusFit
@@ -127,7 +127,7 @@ with-setup l s f h z =
       last = f .last;
       sensor = f .sensor;
       status = f .status;
-      sorter = f .sorter;
+      sorters = f .sorters;
       foreign = f .foreign;
       item = item-none (l .item) s (stopped-empty l (f .status) z);
       undo = f .undo;

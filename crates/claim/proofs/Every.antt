@@ -15,9 +15,10 @@ use Rattle.laws.proofs.Tests.{both, and-intro, if-ind, by-cases}
 use Rattle.settings.specs.Settings.{blank, recordFit, recordRanged, limitsOrdered, settingsLength}
 use Rattle.settings.specs.declared.Settings.{Settings}
 use Rattle.device.specs.Sensor.{sensorFit}
-use Rattle.device.proofs.Keeps.{off-fit, off-idle}
+use Rattle.sorters.proofs.Keeps.{all-off-fit, all-off-idle}
 use Rattle.detector.proofs.Signals.{none-fit}
-use Rattle.event.specs.Setup.{setupRanged, edgeAgrees}
+use Rattle.lists.specs.Each.{allOf}
+use Rattle.event.specs.Setup.{sorterRanged, sortersRanged, setupRanged, edgeAgrees}
 use Rattle.event.specs.Event.{eventRanged, eventAgrees}
 use Rattle.event.specs.declared.Event.{Event}
 use Rattle.event.specs.declared.Event.the-variants.{Sample, Run, Stop, Emergency, Recall, Cancel, ClearCode, ClearAll, ErrorReset, NoOperation, Setup, Store}
@@ -180,9 +181,9 @@ holds-after w e h =
 -- ---- every list
 
 fresh-fit : FitLine freshLine
-unfolding freshLine setupRanged edgeAgrees lastFit sensorFit statusFit errorKnown busy itemFit undoFit
+unfolding freshLine allOf sorterRanged sortersRanged setupRanged edgeAgrees lastFit sensorFit statusFit errorKnown busy itemFit undoFit
 fresh-fit =
-    record { code = refl; setup = refl; last = refl; sensor = refl; status = rw off-idle; sorter = off-fit; foreign = none-fit; item = refl; undo = refl }
+    record { code = refl; setup = refl; last = refl; sensor = refl; status = rw all-off-idle; sorters = all-off-fit; foreign = none-fit; item = refl; undo = refl }
 
 blank-fit : recordFit blank ≡ true
 unfolding recordRanged limitsOrdered

@@ -4,4 +4,5 @@ pub mod Sheets
 pub mod Events
 pub mod RunningTicks
 pub mod Signals
+pub mod SortersApart
 pub mod Every

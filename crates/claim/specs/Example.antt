@@ -1,8 +1,9 @@
--- 01, "Text lines": the worked example as events and replies.
+-- 01, "Text lines": the worked example as events and replies, with each of T-01's six sorters set as 01 sets its one.
 use Prim.Native.Nat.{ℕ}
 use mathlib.Core.Path.{_≡_}
 use mathlib.Core.List.{List, [], _∷_, map}
 use lib.IntN.{ℤ, pos}
+use Rattle.event.specs.declared.SorterSetup.{SorterSetup}
 use Rattle.event.specs.declared.Event.{Event}
 use Rattle.event.specs.declared.Event.the-variants.{Sample, Run, ClearCode, Setup, Store}
 use Rattle.event.specs.declared.reply.Reply.{Reply}
@@ -11,9 +12,28 @@ use Rattle.event.specs.Reply.{noError}
 use Rattle.book.specs.Book.{Turn}
 use Rattle.claim.specs.Run.{run}
 
+abbrev sorter : SorterSetup
+sorter = record { ts = 1; to = 1; sort = 0 }
+
 abbrev pub events : List Event
 events =
-    Setup (record { mode = 1; edge = 1; tc = 0; tw = 0; ta = 2; tf = 0; ts = 1; to = 1; sort = 0; stop = 0; need = 0 })
+    Setup
+    (record {
+      mode = 1;
+      edge = 1;
+      tc = 0;
+      tw = 0;
+      ta = 2;
+      tf = 0;
+      sorter1 = sorter;
+      sorter2 = sorter;
+      sorter3 = sorter;
+      sorter4 = sorter;
+      sorter5 = sorter;
+      sorter6 = sorter;
+      stop = 0;
+      need = 0;
+    })
     ∷ Store 0 (record { target = pos 1000; lolo = pos 900; lo = pos 990; hi = pos 1010; hihi = pos 1100; nearzero = pos 100; tare = pos 0 })
     ∷ Run
     ∷ Sample (record { gross = pos 500; sensor = 1; emergency = 0; safety = 255; foreign = 0 })

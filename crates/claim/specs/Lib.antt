@@ -4,3 +4,4 @@ pub mod Example
 pub mod StatusRefusals
 pub mod RunningTick
 pub mod Signals
+pub mod SortersApart

@@ -2,6 +2,7 @@
 ghost use Rattle.claim.specs.Claim.{Claim};
 ghost use Rattle.claim.specs.Example.{Example};
 ghost use Rattle.claim.specs.Signals.{SignalsKept};
+ghost use Rattle.claim.specs.SortersApart.{SortersApart};
 ghost use Rattle.claim.specs.StatusRefusals.{StatusRefusals};
 
 // The claim over every list of events, from a fresh line and fresh memory. It says nothing of the code here: it is a
@@ -23,4 +24,9 @@ pub fn status_refusals()
 // No foreign signal that is carried is lost but by a foreign verdict or its crash, and at most eight are carried.
 pub fn signals_kept()
     ensures { λ _. ⌜ SignalsKept ⌝ }
+{}
+
+// What an event makes of a sorter hangs on that sorter, its settings, the tick and the verdict given, and on no other sorter.
+pub fn sorters_apart()
+    ensures { λ _. ⌜ SortersApart ⌝ }
 {}

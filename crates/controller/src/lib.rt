@@ -56,6 +56,7 @@ pub use event::Event;
 pub use event::Reply;
 pub use event::Sample;
 pub use event::Setup;
+pub use event::SorterSetup;
 pub use line::Line;
 pub use line::Step;
 pub use line::Storing;

@@ -1,4 +1,4 @@
--- What a fit setup and a sample in range tell. Assumes nothing.
+-- What a fit setup, a sorter's part of it and a sample in range tell. Assumes nothing.
 use mathlib.Core.Path.{_≡_}
 use mathlib.Core.Bool.{Bool, true, _&&_}
 use Prim.Native.Nat.{_≤_, _%_}
@@ -7,9 +7,10 @@ use borrow.Author.Tests.{leb-true}
 use Rattle.laws.specs.Choice.{within}
 use Rattle.weight.specs.Weight.{isWeight}
 use Rattle.laws.proofs.Tests.{both}
-use Rattle.event.specs.Setup.{setupRanged, edgeAgrees, setupFit}
+use Rattle.event.specs.Setup.{sorterRanged, sortersRanged, setupRanged, edgeAgrees, setupFit}
 use Rattle.event.specs.Sample.{sampleRanged}
 use Rattle.event.specs.declared.Setup.{Setup}
+use Rattle.event.specs.declared.SorterSetup.{SorterSetup}
 use Rattle.event.specs.declared.Sample.{Sample}
 
 pub record Timers (s : Setup) : Type 0 where
@@ -18,10 +19,9 @@ pub record Timers (s : Setup) : Type 0 where
   pub tf : s .tf ≤ 9999
   pub some : 1 ≤ s .ta
   pub ta : s .ta ≤ 9999
-  pub ts : within 1 9999 (s .ts) ≡ true
-  pub to : s .to ≤ 9999
+  pub sorters : sortersRanged s ≡ true
 
--- the tests before those of ta, ts and to
+-- the tests before those of ta and the sorters
 abbrev delays : Setup → Bool
 delays s = within 1 2 (s .mode) && within 1 2 (s .edge) && leb (s .tc) 9999 && leb (s .tw) 9999 && leb (s .tf) 9999
 
@@ -29,13 +29,10 @@ pub timers : (s : Setup) → setupFit s ≡ true → Timers s
 unfolding setupRanged
 timers s h =
     let r = both (setupRanged s) (edgeAgrees s) h in
-    let a = both _ (eqb (s .sort % 2) 0) (r .0) in
-    let b = both _ (leb (s .need) 255) (a .0) in
+    let b = both _ (leb (s .need) 255) (r .0) in
     let c = both _ (leb (s .stop) 255) (b .0) in
-    let d = both _ (leb (s .sort) 255) (c .0) in
-    let to = both (delays s && within 1 9999 (s .ta) && within 1 9999 (s .ts)) (within 1 9999 (s .to)) (d .0) in
-    let ts = both (delays s && within 1 9999 (s .ta)) (within 1 9999 (s .ts)) (to .0) in
-    let ta = both (delays s) (within 1 9999 (s .ta)) (ts .0) in
+    let d = both _ (sortersRanged s) (c .0) in
+    let ta = both (delays s) (within 1 9999 (s .ta)) (d .0) in
     let tf = both _ (leb (s .tf) 9999) (ta .0) in
     let tw = both _ (leb (s .tw) 9999) (tf .0) in
     let tc = both (within 1 2 (s .mode) && within 1 2 (s .edge)) (leb (s .tc) 9999) (tw .0) in
@@ -46,9 +43,21 @@ timers s h =
       tf = leb-true _ _ (tf .1);
       some = leb-true _ _ (ta-both .0);
       ta = leb-true _ _ (ta-both .1);
-      ts = ts .1;
-      to = leb-true _ _ (both (leb 1 (s .to)) (leb (s .to) 9999) (to .1) .1);
+      sorters = d .1;
     }
+
+-- what a sorter in range bounds
+pub record SorterTimes (c : SorterSetup) : Type 0 where
+  pub ts : within 1 9999 (c .ts) ≡ true
+  pub to : c .to ≤ 9999
+
+pub sorter-times : (c : SorterSetup) → sorterRanged c ≡ true → SorterTimes c
+unfolding sorterRanged
+sorter-times c h =
+    let a = both _ (eqb (c .sort % 2) 0) h in
+    let b = both _ (leb (c .sort) 255) (a .0) in
+    let d = both (within 1 9999 (c .ts)) (within 1 9999 (c .to)) (b .0) in
+    record { ts = d .0; to = leb-true _ _ (both (leb 1 (c .to)) (leb (c .to) 9999) (d .1) .1) }
 
 pub record InRange (s : Sample) : Type 0 where
   pub sensor : s .sensor ≤ 1

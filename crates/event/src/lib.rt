@@ -1,7 +1,7 @@
 // The twelve kinds of event, and which values of their fields are refused 2 (range) or 4 (contradiction).
 // The fields are wide enough to carry values out of range.
 ghost use mathlib.Core.Path.{_≡_};
-ghost use Rattle.event.specs.Setup.{freshSetup, setupRanged, edgeAgrees, setupFit};
+ghost use Rattle.event.specs.Setup.{freshSetup, sorterSetups, sorterRanged, sortersRanged, setupRanged, edgeAgrees, setupFit};
 ghost use Rattle.event.specs.Sample.{sampleRanged};
 ghost use Rattle.event.specs.Event.{eventRanged, eventAgrees};
 ghost use Rattle.event.specs.Kind.{kindOf};
@@ -17,7 +17,16 @@ use settings::is_code;
 use time::LONGEST;
 use weight::is_weight;
 
-// What stopped status lets one set up: timers are in ticks of 10 ms, 0 or 1 to 9,999; masks are 0 to 255.
+// What one of the six sorters is set to: its wait ts and its on-time to, in ticks of 10 ms, 1 to 9,999; and the mask of the
+// verdicts that enter its queue, 0 to 255 with bit 0 clear.
+pub struct SorterSetup {
+    pub ts: u64,
+    pub to: u64,
+    pub sort: u64,
+}
+
+// What stopped status lets one set up: timers are in ticks of 10 ms, 0 or 1 to 9,999; masks are 0 to 255. An event holds it,
+// and an enum that holds an array is not covered: so the sorters are six fields, and `sorters` gives them as an array.
 pub struct Setup {
     // 1 in through, 2 stop
     pub mode: u64,
@@ -27,9 +36,12 @@ pub struct Setup {
     pub tw: u64,
     pub ta: u64,
     pub tf: u64,
-    pub ts: u64,
-    pub to: u64,
-    pub sort: u64,
+    pub sorter1: SorterSetup,
+    pub sorter2: SorterSetup,
+    pub sorter3: SorterSetup,
+    pub sorter4: SorterSetup,
+    pub sorter5: SorterSetup,
+    pub sorter6: SorterSetup,
     pub stop: u64,
     pub need: u64,
 }
@@ -59,7 +71,21 @@ pub enum Event {
     Store(u64, Settings),
 }
 
+impl SorterSetup {
+    pub fn ranged(self) -> bool
+        ensures { λ r. ⌜ r ≡ sorterRanged self ⌝ }
+    {
+        ((1 <= self.ts) & (self.ts <= LONGEST))
+            & ((1 <= self.to) & (self.to <= LONGEST))
+            & (self.sort <= 255)
+            & (self.sort % 2 == 0)
+    }
+}
+
 impl Setup {
+    // how many sorters a line has
+    pub const SORTERS: usize = 6;
+
     // timers of a fresh line, in ticks of 10 ms
     pub const TC: u64 = 0;
 
@@ -76,6 +102,11 @@ impl Setup {
     pub fn fresh() -> Setup
         ensures { λ r. ⌜ r ≡ freshSetup ⌝ }
     {
+        let sorter = SorterSetup {
+            ts: Setup::TS,
+            to: Setup::TO,
+            sort: 0,
+        };
         Setup {
             mode: 1,
             edge: 2,
@@ -83,12 +114,43 @@ impl Setup {
             tw: Setup::TW,
             ta: Setup::TA,
             tf: Setup::TF,
-            ts: Setup::TS,
-            to: Setup::TO,
-            sort: 0,
+            sorter1: sorter,
+            sorter2: sorter,
+            sorter3: sorter,
+            sorter4: sorter,
+            sorter5: sorter,
+            sorter6: sorter,
             stop: 0,
             need: 0,
         }
+    }
+
+    // Sorters 1 to 6, in their order.
+    pub fn sorters(self) -> [SorterSetup; Setup::SORTERS]
+        ensures { λ r. ⌜ r ≡ sorterSetups self ⌝ }
+    {
+        let one = self.sorter1;
+        let two = self.sorter2;
+        let three = self.sorter3;
+        let four = self.sorter4;
+        let five = self.sorter5;
+        let six = self.sorter6;
+        [one, two, three, four, five, six]
+    }
+
+    fn sorters_ranged(self) -> bool
+        ensures { λ r. ⌜ r ≡ sortersRanged self ⌝ }
+    {
+        let all = self.sorters();
+        let mut i: usize = 0;
+        while i < Setup::SORTERS {
+            let sorter = all[i];
+            if !sorter.ranged() {
+                return false;
+            }
+            i += 1;
+        }
+        true
     }
 
     pub fn ranged(self) -> bool
@@ -100,12 +162,9 @@ impl Setup {
             & (self.tw <= LONGEST)
             & (self.tf <= LONGEST)
             & ((1 <= self.ta) & (self.ta <= LONGEST))
-            & ((1 <= self.ts) & (self.ts <= LONGEST))
-            & ((1 <= self.to) & (self.to <= LONGEST))
-            & (self.sort <= 255)
+            & self.sorters_ranged()
             & (self.stop <= 255)
             & (self.need <= 255)
-            & (self.sort % 2 == 0)
     }
 
     // Mode 2 needs edge 2.

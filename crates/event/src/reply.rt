@@ -4,9 +4,10 @@
 pub struct Done {
     // 0 stopped, 1 running, 2 paused, 3 emergency
     pub status: u64,
-    // 0 or 1, as conveyor, sorter, detected and tallied
+    // 0 or 1, as conveyor, detected and tallied
     pub busy: u64,
     pub conveyor: u64,
+    // 0 to 63: bit k - 1 for sorter k
     pub sorter: u64,
     pub detected: u64,
     // 0 none, 1 to 8 the verdicts in mask order, 9 dismissed, 10 abandoned

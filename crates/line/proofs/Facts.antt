@@ -3,7 +3,7 @@ use mathlib.Core.Path.{_≡_}
 use mathlib.Core.Bool.{true}
 use Rattle.laws.proofs.Tests.{both}
 use Rattle.device.specs.Sensor.{sensorFit}
-use Rattle.device.specs.Sorter.{sorterFit}
+use Rattle.sorters.specs.Sorters.{allFit}
 use Rattle.detector.specs.Foreign.{foreignFit}
 use Rattle.event.specs.Setup.{setupFit}
 use Rattle.settings.specs.Settings.{isCode}
@@ -19,7 +19,7 @@ pub record FitLine (l : Line) : Type 0 where
   pub last : lastFit (l .last) ≡ true
   pub sensor : sensorFit (l .sensor) ≡ true
   pub status : statusFit l ≡ true
-  pub sorter : sorterFit (l .sorter) ≡ true
+  pub sorters : allFit (l .sorters) ≡ true
   pub foreign : foreignFit (l .foreign) ≡ true
   pub item : itemFit (l .item) (l .setup) ≡ true
   pub undo : undoFit (l .undo) ≡ true
@@ -30,7 +30,7 @@ fit-tells l h =
     let a = both _ (undoFit (l .undo)) h in
     let b = both _ (itemFit (l .item) (l .setup)) (a .0) in
     let c = both _ (foreignFit (l .foreign)) (b .0) in
-    let d = both _ (sorterFit (l .sorter)) (c .0) in
+    let d = both _ (allFit (l .sorters)) (c .0) in
     let e = both _ (statusFit l) (d .0) in
     let f = both _ (sensorFit (l .sensor)) (e .0) in
     let g = both _ (lastFit (l .last)) (f .0) in
@@ -41,7 +41,7 @@ fit-tells l h =
       last = g .1;
       sensor = f .1;
       status = e .1;
-      sorter = d .1;
+      sorters = d .1;
       foreign = c .1;
       item = b .1;
       undo = a .1;
@@ -50,4 +50,4 @@ fit-tells l h =
 pub tells-fit : (l : Line) → FitLine l → lineFit l ≡ true
 unfolding lineFit
 tells-fit l f =
-    rw (f .code, f .setup, f .last, f .sensor, f .status, f .sorter, f .foreign, f .item, f .undo)
+    rw (f .code, f .setup, f .last, f .sensor, f .status, f .sorters, f .foreign, f .item, f .undo)

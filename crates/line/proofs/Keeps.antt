@@ -1,21 +1,25 @@
 -- Parts of a line are changed and it stays fit. Assumes nothing.
 use mathlib.Core.Path.{_≡_, refl}
 use mathlib.Core.Bool.{true, _&&_, _||_, not}
+use mathlib.Core.List.{List}
 use Prim.Native.Nat.{ℕ}
 use lib.Dec.{leb, eqb}
 use borrow.Author.Tests.{eqb-true}
 use Rattle.laws.proofs.Tests.{both, and-intro, if-ind}
 use Rattle.mask.specs.Bits.{marked}
-use Rattle.device.specs.Sorter.{sorterFit, sorterTicked, queued}
+use Rattle.lists.specs.Each.{allOf}
+use Rattle.sorters.specs.Sorters.{allFit, allTicked, allEntered}
+use Rattle.sorters.proofs.Keeps.{all-ticked-fit, all-entered-fit, all-off-fit, all-off-idle}
 use Rattle.detector.specs.Foreign.{foreignTicked, foreignFit}
 use Rattle.device.specs.declared.sorter.Sorter.{Sorter}
 use Rattle.detector.specs.declared.Foreign.{Foreign}
-use Rattle.device.proofs.Keeps.{settled-fit, ticked-fit, queued-fit, off-fit, off-idle}
+use Rattle.device.proofs.Keeps.{settled-fit}
 use Rattle.detector.proofs.Signals.{foreign-ticked-fit}
 use Rattle.event.specs.declared.Sample.{Sample}
+use Rattle.event.specs.Setup.{sorterSetups, sorterRanged, sortersRanged}
 use Rattle.event.proofs.Facts.{timers, InRange}
 use Rattle.status.specs.Status.{stopped, running, paused, emergency, errorKnown, errorFor}
-use Rattle.line.specs.Line.{busy, withStatus, withSorter, withForeign, withItem}
+use Rattle.line.specs.Line.{busy, withStatus, withSorters, withForeign, withItem}
 use Rattle.event.specs.Reply.{noError}
 use Rattle.line.specs.Fit.{statusFit}
 use Rattle.event.specs.Sample.{lastFit}
@@ -62,7 +66,7 @@ with-item l i r h =
         last = r .fit .last;
         sensor = r .fit .sensor;
         status = running-status (withItem l i) (r .status) (r .error);
-        sorter = r .fit .sorter;
+        sorters = r .fit .sorters;
         foreign = r .fit .foreign;
         item = h;
         undo = r .fit .undo;
@@ -71,16 +75,16 @@ with-item l i r h =
       error = r .error;
     }
 
-with-sorter : (l : Line) (s : Sorter) → Running l → sorterFit s ≡ true → Running (withSorter l s)
-with-sorter l s r h =
+with-sorters : (l : Line) (ss : List Sorter) → Running l → allFit ss ≡ true → Running (withSorters l ss)
+with-sorters l ss r h =
     record {
       fit = record {
         code = r .fit .code;
         setup = r .fit .setup;
         last = r .fit .last;
         sensor = r .fit .sensor;
-        status = running-status (withSorter l s) (r .status) (r .error);
-        sorter = h;
+        status = running-status (withSorters l ss) (r .status) (r .error);
+        sorters = h;
         foreign = r .fit .foreign;
         item = r .fit .item;
         undo = r .fit .undo;
@@ -98,7 +102,7 @@ with-foreign l f r h =
         last = r .fit .last;
         sensor = r .fit .sensor;
         status = running-status (withForeign l f) (r .status) (r .error);
-        sorter = r .fit .sorter;
+        sorters = r .fit .sorters;
         foreign = h;
         item = r .fit .item;
         undo = r .fit .undo;
@@ -115,7 +119,7 @@ with-paused l e f h =
       last = f .last;
       sensor = f .sensor;
       status = paused-status (withStatus l paused e) refl h;
-      sorter = f .sorter;
+      sorters = f .sorters;
       foreign = f .foreign;
       item = f .item;
       undo = f .undo;
@@ -123,11 +127,15 @@ with-paused l e f h =
 
 -- ---- the steps that change one part
 
+sorters-in-range : (l : Line) → Running l → allOf sorterRanged (sorterSetups (l .setup)) ≡ true
+unfolding sortersRanged
+sorters-in-range l r = timers (l .setup) (r .fit .setup) .sorters
+
 pub fit-step4 : (l : Line) → Running l → Running (step4 l)
 unfolding step4
 fit-step4 l r =
-    with-sorter l (sorterTicked (l .sorter) (l .setup .to)) r
-    (ticked-fit (l .sorter) (l .setup .to) (timers (l .setup) (r .fit .setup) .to) (r .fit .sorter))
+    with-sorters l (allTicked (l .sorters) (sorterSetups (l .setup))) r
+    (all-ticked-fit (l .sorters) (sorterSetups (l .setup)) (r .fit .sorters) (sorters-in-range l r))
 
 pub fit-step5 : (l : Line) (t : Tick) → Running l → Running (step5 l t)
 unfolding step5
@@ -138,10 +146,8 @@ fit-step5 l t r =
 pub fit-sorted : (l : Line) (v : ℕ) → Running l → Running (sortedFor l v)
 unfolding sortedFor
 fit-sorted l v r =
-    if-ind Running (marked (l .setup .sort) v) _ _
-    (λ _. with-sorter l (queued (l .sorter) (l .setup .ts)) r
-    (queued-fit (l .sorter) (l .setup .ts) (timers (l .setup) (r .fit .setup) .ts) (r .fit .sorter)))
-    (λ _. r)
+    with-sorters l (allEntered v (l .sorters) (sorterSetups (l .setup))) r
+    (all-entered-fit v (l .sorters) (sorterSetups (l .setup)) (r .fit .sorters) (sorters-in-range l r))
 
 error-known : (v : ℕ) → errorKnown (errorFor v) ≡ true
 unfolding errorFor errorKnown
@@ -164,7 +170,7 @@ fit-step1 l s f r =
       last = and-intro (and-intro (r .gross) (r .safety)) (r .foreign);
       sensor = settled-fit (l .sensor) (l .setup .tc) (s .sensor) (timers (l .setup) (f .setup) .tc) (r .sensor) (f .sensor);
       status = f .status;
-      sorter = f .sorter;
+      sorters = f .sorters;
       foreign = f .foreign;
       item = f .item;
       undo = f .undo;
@@ -181,7 +187,7 @@ halted-fit l s f h =
       last = f .last;
       sensor = f .sensor;
       status = h;
-      sorter = off-fit;
+      sorters = all-off-fit;
       foreign = f .foreign;
       item = refl;
       undo = f .undo;
@@ -189,11 +195,11 @@ halted-fit l s f h =
 
 stopped-status : (l : Line) → statusFit (halted l stopped) ≡ true
 unfolding halted statusFit errorKnown busy
-stopped-status l = rw off-idle
+stopped-status l = rw all-off-idle
 
 emergency-status : (l : Line) → statusFit (halted l emergency) ≡ true
 unfolding halted statusFit errorKnown busy
-emergency-status l = rw off-idle
+emergency-status l = rw all-off-idle
 
 pub fit-stop : (l : Line) → FitLine l → FitLine (halted l stopped)
 fit-stop l f = halted-fit l stopped f (stopped-status l)

@@ -4,4 +4,5 @@ pub mod Moves
 pub mod Keeps
 pub mod Ticks
 pub mod Signals
+pub mod Sorting
 pub mod Stores

@@ -1,16 +1,16 @@
 -- What one event does to the box in hand and to one that comes. Assumes nothing.
 use mathlib.Core.Path.{_≡_, refl}
-use mathlib.Core.Bool.{true, false, _&&_, _||_}
+use mathlib.Core.Bool.{true, false, _||_}
 use Prim.Native.Nat.{ℕ}
 use lib.Dec.{eqb}
 use lib.IntN.{ℤ}
 use lib.Signed.{ltZ, leZ}
 use Rattle.laws.specs.Choice.{within}
 use Rattle.laws.proofs.Tests.{if-ind}
-use Rattle.mask.specs.Bits.{marked}
 use Rattle.settings.specs.Grade.{gradeOf}
 use Rattle.settings.specs.declared.Settings.{Settings}
-use Rattle.device.specs.Sorter.{full}
+use Rattle.sorters.specs.Sorters.{anyBlocks}
+use Rattle.event.specs.Setup.{sorterSetups}
 use Rattle.line.specs.Verdict.{orCrash}
 use Rattle.line.specs.declared.line.Line.{Line}
 
@@ -47,4 +47,4 @@ foreign-judged = record { one = refl; not7 = refl; not9 = refl; not10 = refl; no
 
 pub crash-judged : (l : Line) (v : ℕ) → Judged v → Judged (orCrash l v)
 unfolding orCrash
-crash-judged l v j = if-ind Judged (marked (l .setup .sort) v && full (l .sorter)) 8 v (λ _. record { one = refl; not7 = refl; not9 = refl; not10 = refl; not0 = refl }) (λ _. j)
+crash-judged l v j = if-ind Judged (anyBlocks v (l .sorters) (sorterSetups (l .setup))) 8 v (λ _. record { one = refl; not7 = refl; not9 = refl; not10 = refl; not0 = refl }) (λ _. j)

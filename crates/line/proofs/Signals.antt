@@ -9,10 +9,10 @@ use lib.IntN.{ℤ, pos, _-ℤ_}
 use lib.Signed.{ltZ, leZ}
 use Rattle.laws.specs.Choice.{bit}
 use Rattle.laws.proofs.Tests.{if-ind, never}
-use Rattle.mask.specs.Bits.{marked}
 use Rattle.settings.specs.Grade.{gradeOf}
 use Rattle.settings.specs.declared.Settings.{Settings}
-use Rattle.device.specs.Sorter.{full}
+use Rattle.sorters.specs.Sorters.{anyBlocks}
+use Rattle.event.specs.Setup.{sorterSetups}
 use Rattle.detector.specs.Foreign.{carried, eightCarried, due, foreignTicked, oldestUsed}
 use Rattle.detector.proofs.Signals.{ticked-carried, used-carried}
 use Rattle.time.specs.Time.{isTime}
@@ -36,7 +36,7 @@ usedOf d o = bit (eqb o 6 || eqb o 8 && d)
 
 crash-uses : (l : Line) (d : Bool) → d ≡ true → usedOf d (orCrash l 6) ≡ 1
 unfolding orCrash
-crash-uses l d h = if-ind (λ (o : ℕ). usedOf d o ≡ 1) (marked (l .setup .sort) 6 && full (l .sorter)) 8 6 (λ _. rw h refl) (λ _. refl)
+crash-uses l d h = if-ind (λ (o : ℕ). usedOf d o ≡ 1) (anyBlocks 6 (l .sorters) (sorterSetups (l .setup))) 8 6 (λ _. rw h refl) (λ _. refl)
 
 grade-uses : (a : Settings) (net : ℤ) (d : Bool) → usedOf d (gradeOf a net) ≡ 0
 unfolding gradeOf
@@ -52,7 +52,7 @@ grade-uses a net d =
 grade-crash-uses : (l : Line) (a : Settings) (net : ℤ) (d : Bool) → d ≡ false → usedOf d (orCrash l (gradeOf a net)) ≡ 0
 unfolding orCrash
 grade-crash-uses l a net d h =
-    if-ind (λ (o : ℕ). usedOf d o ≡ 0) (marked (l .setup .sort) (gradeOf a net) && full (l .sorter)) 8 (gradeOf a net)
+    if-ind (λ (o : ℕ). usedOf d o ≡ 0) (anyBlocks (gradeOf a net) (l .sorters) (sorterSetups (l .setup))) 8 (gradeOf a net)
     (λ _. rw h refl)
     (λ _. grade-uses a net d)
 

@@ -76,8 +76,7 @@ pub record Same (l m : Line) : Type 0 where
 
 sorted-same : (l : Line) (v : ℕ) → Same l (sortedFor l v)
 unfolding sortedFor
-sorted-same l v =
-    if-ind (Same l) (marked (l .setup .sort) v) _ _ (λ _. record { code = refl; undo = refl; item = refl; foreign = refl }) (λ _. record { code = refl; undo = refl; item = refl; foreign = refl })
+sorted-same l v = record { code = refl; undo = refl; item = refl; foreign = refl }
 
 stopped-same : (l : Line) (v : ℕ) → Same l (stoppedFor l v)
 unfolding stoppedFor
@@ -321,7 +320,7 @@ run-goes l f =
       last = f .last;
       sensor = f .sensor;
       status = running-status (withStatus l running noError) refl refl;
-      sorter = f .sorter;
+      sorters = f .sorters;
       foreign = f .foreign;
       item = f .item;
       undo = f .undo;

@@ -2,9 +2,9 @@
 use Prim.Native.Nat.{ℕ}
 use lib.IntN.{pos}
 use Rattle.laws.specs.Choice.{if_then_else_, bit}
-use Rattle.device.specs.Sorter.{sorterOff}
+use Rattle.sorters.specs.Sorters.{allOff}
 use Rattle.item.specs.Item.{inHand}
-use Rattle.line.specs.Line.{busy, conveyor, sorterOn, withStatus, withSorter, withItem}
+use Rattle.line.specs.Line.{busy, conveyor, sorterField, withStatus, withSorters, withItem}
 use Rattle.event.specs.Reply.{noError}
 use Rattle.item.specs.declared.Item.the-variants.{None}
 use Rattle.line.specs.declared.line.Line.{Line}
@@ -22,7 +22,7 @@ dismissed l = record { line = l; detected = 0; outcome = 9; net = pos 0 }
 
 -- "Entering status 0 or 3 abandons an item in hand, empties the queue, puts the sorter off and the error to none. A foreign signal is kept."
 unfoldable pub halted : Line → ℕ → Line
-halted l s = withItem (withSorter (withStatus l s noError) sorterOff) None
+halted l s = withItem (withSorters (withStatus l s noError) allOff) None
 
 unfoldable pub halting : Line → ℕ → Effect
 halting l s =
@@ -36,7 +36,7 @@ replied e tallied =
       status = e .line .status;
       busy = bit (busy (e .line));
       conveyor = bit (conveyor (e .line));
-      sorter = bit (sorterOn (e .line));
+      sorter = sorterField (e .line);
       detected = e .detected;
       outcome = e .outcome;
       net = e .net;

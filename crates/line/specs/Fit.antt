@@ -2,7 +2,7 @@
 use mathlib.Core.Bool.{Bool, _&&_, _||_, not}
 use lib.Dec.{eqb, leb}
 use Rattle.device.specs.Sensor.{sensorFit}
-use Rattle.device.specs.Sorter.{sorterFit}
+use Rattle.sorters.specs.Sorters.{allFit}
 use Rattle.detector.specs.Foreign.{foreignFit}
 use Rattle.event.specs.Setup.{setupFit}
 use Rattle.event.specs.Sample.{lastFit}
@@ -24,5 +24,5 @@ statusFit l =
 unfoldable pub lineFit : Line → Bool
 lineFit l =
     isCode (l .code) && setupFit (l .setup) && lastFit (l .last) && sensorFit (l .sensor)
-    && statusFit l && sorterFit (l .sorter) && foreignFit (l .foreign)
+    && statusFit l && allFit (l .sorters) && foreignFit (l .foreign)
     && itemFit (l .item) (l .setup) && undoFit (l .undo)

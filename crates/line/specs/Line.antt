@@ -1,10 +1,12 @@
 -- 01, "Line and memory": statuses, busy, the fresh line; and the line with one part anew.
 use Prim.Native.Nat.{ℕ}
 use mathlib.Core.Bool.{Bool, _&&_, _||_, not}
-use lib.Dec.{eqb, ltb}
+use mathlib.Core.List.{List}
+use lib.Dec.{eqb}
 use lib.IntN.{pos}
+use Rattle.laws.specs.Choice.{if_then_else_}
 use Rattle.status.specs.Status.{stopped, running}
-use Rattle.device.specs.Sorter.{sorting, sorterOff}
+use Rattle.sorters.specs.Sorters.{anySorting, onBits, allOff}
 use Rattle.detector.specs.Foreign.{noSignal}
 use Rattle.device.specs.declared.sensor.Sensor.{Sensor}
 use Rattle.device.specs.declared.sorter.Sorter.{Sorter}
@@ -23,17 +25,17 @@ use Rattle.line.specs.declared.line.Line.{Line}
 abbrev pub isRunning : Line → Bool
 isRunning l = eqb (l .status) running
 
--- "Busy: an item is in hand, the sorter queue isn't empty, or the on-time is above 0"
+-- "Busy: an item is in hand, the sorter queue isn't empty, or the on-time is above 0", with T-01's six sorters of one of them
 unfoldable pub busy : Line → Bool
-busy l = inHand (l .item) || sorting (l .sorter)
+busy l = inHand (l .item) || anySorting (l .sorters)
 
 -- "Conveyor is 1 when running, in mode 2 only with nothing in hand."
 unfoldable pub conveyor : Line → Bool
 conveyor l = isRunning l && not (eqb (l .setup .mode) 2 && inHand (l .item))
 
--- "Sorter is 1 when running with on-time above 0."
-unfoldable pub sorterOn : Line → Bool
-sorterOn l = isRunning l && ltb 0 (l .sorter .on)
+-- "Sorter is 1 when running with on-time above 0."; 02, T-01: it "is 0 to 63, bit k-1 for sorter k"
+unfoldable pub sorterField : Line → ℕ
+sorterField l = if isRunning l then onBits (l .sorters) else 0
 
 -- "A fresh line is stopped, on code 0, with sensor and foreign levels 0, last gross 0, no foreign signal, error none, nothing to cancel";
 -- "the last sample's safety (255 if fresh)"
@@ -48,7 +50,7 @@ freshLine =
       last = record { gross = pos 0; safety = 255; foreign = 0 };
       foreign = noSignal;
       item = None;
-      sorter = sorterOff;
+      sorters = allOff;
       undo = nothing;
     }
 
@@ -65,7 +67,7 @@ withStatus l s e =
       last = l .last;
       foreign = l .foreign;
       item = l .item;
-      sorter = l .sorter;
+      sorters = l .sorters;
       undo = l .undo;
     }
 
@@ -80,7 +82,7 @@ withCode l c =
       last = l .last;
       foreign = l .foreign;
       item = l .item;
-      sorter = l .sorter;
+      sorters = l .sorters;
       undo = l .undo;
     }
 
@@ -95,7 +97,7 @@ withSetup l s =
       last = l .last;
       foreign = l .foreign;
       item = l .item;
-      sorter = l .sorter;
+      sorters = l .sorters;
       undo = l .undo;
     }
 
@@ -110,7 +112,7 @@ withSensed l s k =
       last = k;
       foreign = l .foreign;
       item = l .item;
-      sorter = l .sorter;
+      sorters = l .sorters;
       undo = l .undo;
     }
 
@@ -125,7 +127,7 @@ withForeign l f =
       last = l .last;
       foreign = f;
       item = l .item;
-      sorter = l .sorter;
+      sorters = l .sorters;
       undo = l .undo;
     }
 
@@ -140,12 +142,12 @@ withItem l i =
       last = l .last;
       foreign = l .foreign;
       item = i;
-      sorter = l .sorter;
+      sorters = l .sorters;
       undo = l .undo;
     }
 
-abbrev pub withSorter : Line → Sorter → Line
-withSorter l s =
+abbrev pub withSorters : Line → List Sorter → Line
+withSorters l ss =
     record {
       status = l .status;
       error = l .error;
@@ -155,7 +157,7 @@ withSorter l s =
       last = l .last;
       foreign = l .foreign;
       item = l .item;
-      sorter = s;
+      sorters = ss;
       undo = l .undo;
     }
 
@@ -170,6 +172,6 @@ withUndo l u =
       last = l .last;
       foreign = l .foreign;
       item = l .item;
-      sorter = l .sorter;
+      sorters = l .sorters;
       undo = u;
     }

@@ -10,16 +10,16 @@ use Rattle.mask.specs.Bits.{lowestOff}
 use Rattle.settings.specs.Settings.{recordFit}
 use Rattle.settings.specs.declared.Settings.{Settings}
 use Rattle.device.specs.Sensor.{settled}
-use Rattle.device.specs.Sorter.{sorterTicked}
+use Rattle.sorters.specs.Sorters.{allTicked}
 use Rattle.detector.specs.Foreign.{eightCarried, foreignTicked}
-use Rattle.event.specs.Setup.{setupFit}
+use Rattle.event.specs.Setup.{setupFit, sorterSetups}
 use Rattle.event.specs.declared.Sample.{Sample}
 use Rattle.status.specs.Status.{stopped, paused, emergency, unsafeError, ninthError}
 use Rattle.item.specs.Item.{inHand, itemFit, newItem, weighed}
 use Rattle.item.specs.declared.Item.the-variants.{None}
 use Rattle.item.specs.declared.Weighed.{Weighed}
 use Rattle.item.specs.declared.Weighed.the-variants.{Still, Mean}
-use Rattle.line.specs.Line.{isRunning, withStatus, withSensed, withForeign, withItem, withSorter}
+use Rattle.line.specs.Line.{isRunning, withStatus, withSensed, withForeign, withItem, withSorters}
 use Rattle.line.specs.Effect.{plain, halting}
 use Rattle.line.specs.Verdict.{given, judged}
 use Rattle.line.specs.declared.sample.Tick.{Tick}
@@ -68,9 +68,9 @@ step2 l level =
 unfoldable pub step3 : Line → Line
 step3 l = if eqb (lowestOff (l .setup .need) (l .last .safety)) 0 then l else withStatus l paused unsafeError
 
--- 4. the sorter's on-time and waits
+-- 4. the on-times and waits of the sorters
 unfoldable pub step4 : Line → Line
-step4 l = withSorter l (sorterTicked (l .sorter) (l .setup .to))
+step4 l = withSorters l (allTicked (l .sorters) (sorterSetups (l .setup)))
 
 -- 5. 02, T-04: "Step 5 lets all delays fall and counts those that ended."; then a change 0 to 1 is one signal more
 unfoldable pub step5 : Line → Tick → Line

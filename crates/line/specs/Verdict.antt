@@ -1,26 +1,25 @@
 -- 01, step 6 and the paragraphs "Grade" and "A verdict with its sort bit": the verdict due and what it does.
 -- Verdicts: 1 LoLo, 2 Lo, 3 OK, 4 Hi, 5 HiHi, 6 foreign, 7 two-on, 8 crash.
 use Prim.Native.Nat.{ℕ}
-use mathlib.Core.Bool.{_&&_}
-use lib.Dec.{eqb}
 use lib.IntN.{ℤ, pos, _-ℤ_}
 use lib.Signed.{leZ}
 use Rattle.laws.specs.Choice.{if_then_else_}
 use Rattle.mask.specs.Bits.{marked}
 use Rattle.settings.specs.Grade.{gradeOf}
 use Rattle.settings.specs.declared.Settings.{Settings}
-use Rattle.device.specs.Sorter.{full, queued}
+use Rattle.sorters.specs.Sorters.{allEntered, anyBlocks}
+use Rattle.event.specs.Setup.{sorterSetups}
 use Rattle.detector.specs.Foreign.{due, oldestUsed}
 use Rattle.tally.specs.Tally.{isGrade}
 use Rattle.status.specs.Status.{errorFor, paused}
-use Rattle.line.specs.Line.{withStatus, withForeign, withSorter}
+use Rattle.line.specs.Line.{withStatus, withForeign, withSorters}
 use Rattle.line.specs.Effect.{dismissed}
 use Rattle.line.specs.declared.line.Line.{Line}
 use Rattle.line.specs.declared.effect.Effect.{Effect}
 
--- "A verdict with its sort bit is queued with wait ts if fewer than 8 wait."
+-- 02, T-01: "A verdict enters the queue of every sorter whose mask has its bit."; 01: "with wait ts if fewer than 8 wait"
 unfoldable pub sortedFor : Line → ℕ → Line
-sortedFor l v = if marked (l .setup .sort) v then withSorter l (queued (l .sorter) (l .setup .ts)) else l
+sortedFor l v = withSorters l (allEntered v (l .sorters) (sorterSetups (l .setup)))
 
 -- "With its stop bit the line pauses"
 unfoldable pub stoppedFor : Line → ℕ → Line
@@ -36,9 +35,10 @@ given l detected v net =
       net = if isGrade v then net else pos 0;
     }
 
--- "If its sort bit is set and the queue holds 8, the verdict is crash."
+-- 02, T-01: "A due foreign or grade verdict becomes crash if one of those queues holds 8, and then it enters none": crash has bit 0,
+-- which no sort mask has
 unfoldable pub orCrash : Line → ℕ → ℕ
-orCrash l v = if marked (l .setup .sort) v && full (l .sorter) then 8 else v
+orCrash l v = if anyBlocks v (l .sorters) (sorterSetups (l .setup)) then 8 else v
 
 -- foreign if a signal has ended, else the grade. 02, T-04: "A foreign verdict due in step 6 uses up one ended signal, the oldest, also where it becomes crash."
 unfoldable pub verdictOf : Line → Settings → ℤ → Effect

@@ -3,10 +3,10 @@ ghost use mathlib.Core.Path.{_≡_};
 ghost use Rattle.laws.specs.Choice.{bit};
 ghost use Rattle.line.specs.Effect.{plain, dismissed, halted, halting, replied};
 use crate::line::Line;
-use device::Sorter;
 use event::Done;
 use event::Reply;
 use item::Item;
+use sorters::all_off;
 
 pub struct Effect {
     pub line: Line,
@@ -56,7 +56,7 @@ impl Effect {
             status: line.status,
             busy: bit(line.busy()),
             conveyor: bit(line.conveyor()),
-            sorter: bit(line.sorter_on()),
+            sorter: line.sorter_field(),
             detected: self.detected,
             outcome: self.outcome,
             net: self.net,
@@ -68,13 +68,13 @@ impl Effect {
 }
 
 impl Line {
-    // Entering status 0 or 3 abandons an item in hand, empties the queue and puts the sorter off.
+    // Entering status 0 or 3 abandons an item in hand, empties the queues and puts the sorters off.
     fn halted(self, status: u64) -> Line
         ensures { λ r. ⌜ r ≡ halted self status ⌝ }
     {
-        let off = Sorter::off();
+        let off = all_off();
         self.with_status(status, Line::NO_ERROR)
-            .with_sorter(off)
+            .with_sorters(off)
             .with_item(Item::None)
     }
 

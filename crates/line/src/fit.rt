@@ -3,6 +3,7 @@ ghost use mathlib.Core.Path.{_≡_};
 ghost use Rattle.line.specs.Fit.{statusFit, lineFit};
 use crate::line::Line;
 use settings::is_code;
+use sorters::all_fit;
 use status::error_known;
 
 impl Line {
@@ -26,7 +27,7 @@ impl Line {
         let setup = self.setup;
         let last = self.last;
         let sensor = self.sensor;
-        let sorter = self.sorter;
+        let sorters = self.sorters;
         let foreign = self.foreign;
         let item = self.item;
         let undo = self.undo;
@@ -35,7 +36,7 @@ impl Line {
             & last.fit()
             & sensor.fit()
             & self.status_fit()
-            & sorter.fit()
+            & all_fit(sorters)
             & foreign.fit()
             & item.fit(setup)
             & undo.fit()

@@ -1,6 +1,6 @@
 // The line's record. An event takes it and gives back the next one.
 ghost use mathlib.Core.Path.{_≡_};
-ghost use Rattle.line.specs.Line.{busy, conveyor, sorterOn, freshLine, withStatus, withCode, withSetup, withSensed, withForeign, withItem, withSorter, withUndo};
+ghost use Rattle.line.specs.Line.{busy, conveyor, sorterField, freshLine, withStatus, withCode, withSetup, withSensed, withForeign, withItem, withSorters, withUndo};
 use detector::Foreign;
 use device::Sensor;
 use device::Sorter;
@@ -9,6 +9,9 @@ use event::Last;
 use event::Setup;
 use item::Item;
 use queue::Queue;
+use sorters::all_off;
+use sorters::any_sorting;
+use sorters::on_bits;
 use tally::Tally;
 use undo::Undo;
 
@@ -21,7 +24,8 @@ pub struct Line {
     pub last: Last,
     pub foreign: Foreign,
     pub item: Item,
-    pub sorter: Sorter,
+    // sorter k stands at k - 1
+    pub sorters: [Sorter; Setup::SORTERS],
     pub undo: Undo,
 }
 
@@ -37,7 +41,7 @@ impl Line {
     // error none
     pub const NO_ERROR: u64 = Done::NO_ERROR;
 
-    // verdicts that a code's tally takes, and waits that the queue takes
+    // verdicts that a code's tally takes, and waits that a queue takes
     pub const TALLY_LIMIT: u64 = Tally::LIMIT;
 
     pub const QUEUE_LIMIT: u64 = Queue::PLACES;
@@ -71,7 +75,7 @@ impl Line {
             },
             foreign: Foreign::none(),
             item: Item::None,
-            sorter: Sorter::off(),
+            sorters: all_off(),
             undo: Undo::nothing(),
         }
     }
@@ -83,13 +87,13 @@ impl Line {
         self.code
     }
 
-    // An item is in hand, the queue isn't empty, or the sorter is on.
+    // An item is in hand, a queue isn't empty, or a sorter is on.
     pub(crate) fn busy(self) -> bool
         ensures { λ r. ⌜ r ≡ busy self ⌝ }
     {
         let item = self.item;
-        let sorter = self.sorter;
-        item.in_hand() | sorter.sorting()
+        let sorters = self.sorters;
+        item.in_hand() | any_sorting(sorters)
     }
 
     pub(crate) fn conveyor(self) -> bool
@@ -99,10 +103,16 @@ impl Line {
         (self.status == Line::RUNNING) & !((self.setup.mode == 2) & item.in_hand())
     }
 
-    pub(crate) fn sorter_on(self) -> bool
-        ensures { λ r. ⌜ r ≡ sorterOn self ⌝ }
+    // The reply's sorter field: while running, which sorters are on.
+    pub(crate) fn sorter_field(self) -> u64
+        ensures { λ r. ⌜ r ≡ sorterField self ⌝ }
     {
-        (self.status == Line::RUNNING) & (0 < self.sorter.on)
+        let sorters = self.sorters;
+        let bits = on_bits(sorters);
+        if self.status == Line::RUNNING {
+            return bits;
+        }
+        0
     }
 
     pub(crate) fn with_status(mut self, status: u64, error: u64) -> Line
@@ -142,10 +152,10 @@ impl Line {
         self
     }
 
-    pub(crate) fn with_sorter(mut self, sorter: Sorter) -> Line
-        ensures { λ r. ⌜ r ≡ withSorter self sorter ⌝ }
+    pub(crate) fn with_sorters(mut self, sorters: [Sorter; Setup::SORTERS]) -> Line
+        ensures { λ r. ⌜ r ≡ withSorters self sorters ⌝ }
     {
-        self.sorter = sorter;
+        self.sorters = sorters;
         self
     }
 
@@ -157,7 +167,7 @@ impl Line {
         let sensor = self.sensor;
         let last = self.last;
         let foreign = self.foreign;
-        let sorter = self.sorter;
+        let sorters = self.sorters;
         let undo = self.undo;
         Line {
             status: self.status,
@@ -168,7 +178,7 @@ impl Line {
             last: last,
             foreign: foreign,
             item: item,
-            sorter: sorter,
+            sorters: sorters,
             undo: undo,
         }
     }

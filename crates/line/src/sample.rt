@@ -13,6 +13,7 @@ use item::Item;
 use item::Weighed;
 use item::new_item;
 use settings::Settings;
+use sorters::all_ticked;
 
 // What a running tick is given: the active code's record, the gross (divisions), whether the foreign level rose and whether
 // the settled level made the chosen edge.
@@ -54,13 +55,14 @@ impl Line {
         self.with_sensed(settled, last)
     }
 
-    // The sorter's times.
+    // The sorters' times.
     fn step4(self) -> Line
         ensures { λ r. ⌜ r ≡ step4 self ⌝ }
     {
-        let sorter = self.sorter;
-        let next = sorter.ticked(self.setup.to);
-        self.with_sorter(next)
+        let sorters = self.sorters;
+        let setup = self.setup;
+        let next = all_ticked(sorters, setup);
+        self.with_sorters(next)
     }
 
     // The foreign signals under way.

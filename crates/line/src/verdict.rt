@@ -8,19 +8,19 @@ ghost use Rattle.line.specs.Verdict.{sortedFor, stoppedFor, given, orCra
 use crate::effect::Effect;
 use crate::line::Line;
 use settings::Settings;
+use sorters::all_entered;
+use sorters::any_blocks;
 use status::error_for;
 
 impl Line {
-    // With its sort bit a verdict is queued, if fewer than eight wait.
+    // A verdict enters the queue of every sorter whose mask has its bit.
     fn sorted_for(self, verdict: u64) -> Line
         ensures { λ r. ⌜ r ≡ sortedFor self verdict ⌝ }
     {
-        if mask::has(self.setup.sort, verdict) {
-            let sorter = self.sorter;
-            let next = sorter.queued(self.setup.ts);
-            return self.with_sorter(next);
-        }
-        self
+        let sorters = self.sorters;
+        let setup = self.setup;
+        let next = all_entered(sorters, setup, verdict);
+        self.with_sorters(next)
     }
 
     // With its stop bit the line pauses.
@@ -54,12 +54,13 @@ impl Line {
         }
     }
 
-    // A verdict that should be sorted and finds the queue full is crash.
+    // A verdict that should enter a queue that is full is crash.
     fn or_crash(self, verdict: u64) -> u64
         ensures { λ r. ⌜ r ≡ orCrash self verdict ⌝ }
     {
-        let sorter = self.sorter;
-        if mask::has(self.setup.sort, verdict) & sorter.full() {
+        let sorters = self.sorters;
+        let setup = self.setup;
+        if any_blocks(sorters, setup, verdict) {
             return 8;
         }
         verdict

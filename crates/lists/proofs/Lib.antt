@@ -1,3 +1,4 @@
 pub mod Past
 pub mod Each
+pub mod Pairs
 pub mod Places

@@ -1,4 +1,4 @@
--- A test of one element, applied to a list of them.
+-- A test or a rule of one element, applied to a list of them; and of one with its partner in a second list.
 use Prim.Native.Nat.{ℕ, _+_}
 use mathlib.Core.Bool.{Bool, true, false, _&&_, _||_}
 use mathlib.Core.List.{List, [], _∷_}
@@ -13,6 +13,18 @@ anyOf p (x ∷ xs) = p x || anyOf p xs
 unfoldable pub allOf : {A : Type 0} → (A → Bool) → List A → Bool
 allOf p [] = true
 allOf p (x ∷ xs) = p x && allOf p xs
+
+-- one of the list passes with its partner
+unfoldable pub anyPair : {A B : Type 0} → (A → B → Bool) → List A → List B → Bool
+anyPair p [] ys = false
+anyPair p (x ∷ xs) [] = false
+anyPair p (x ∷ xs) (y ∷ ys) = p x y || anyPair p xs ys
+
+-- a rule of one with its partner, at each of the list
+unfoldable pub eachPair : {A B : Type 0} → (A → B → A) → List A → List B → List A
+eachPair f [] ys = []
+eachPair f (x ∷ xs) [] = x ∷ xs
+eachPair f (x ∷ xs) (y ∷ ys) = f x y ∷ eachPair f xs ys
 
 -- how many of the list pass
 unfoldable pub counted : {A : Type 0} → (A → Bool) → List A → ℕ

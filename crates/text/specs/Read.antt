@@ -1,5 +1,5 @@
 -- 01, "Text lines": what a line says.
-use Prim.Native.Nat.{ℕ}
+use Prim.Native.Nat.{ℕ, _+_}
 use mathlib.Core.List.{List, [], _∷_, _++_, map}
 use lib.ListN.{length, getD}
 use lib.Dec.{leb}
@@ -8,6 +8,7 @@ use Prim.Native.String.{String}
 use Rattle.laws.specs.Choice.{if_then_else_}
 use Rattle.settings.specs.declared.Settings.{Settings}
 use Rattle.event.specs.declared.Setup.{Setup}
+use Rattle.event.specs.declared.SorterSetup.{SorterSetup}
 use Rattle.event.specs.declared.Sample.{Sample}
 use Rattle.event.specs.declared.Event.{Event}
 use Rattle.event.specs.declared.Event.the-variants as event
@@ -32,6 +33,9 @@ sizeAt vs i = unsignedOf (at vs i)
 abbrev pub sampleOf : List ℤ → Sample
 sampleOf v = record { gross = at v 4; sensor = sizeAt v 0; emergency = sizeAt v 1; safety = sizeAt v 2; foreign = sizeAt v 3 }
 
+abbrev pub sorterAt : List ℤ → ℕ → SorterSetup
+sorterAt v i = record { ts = sizeAt v i; to = sizeAt v (i + 1); sort = sizeAt v (i + 2) }
+
 abbrev pub setupOf : List ℤ → Setup
 setupOf v = record {
   mode = sizeAt v 0;
@@ -40,11 +44,14 @@ setupOf v = record {
   tw = sizeAt v 3;
   ta = sizeAt v 4;
   tf = sizeAt v 5;
-  ts = sizeAt v 6;
-  to = sizeAt v 7;
-  sort = sizeAt v 8;
-  stop = sizeAt v 9;
-  need = sizeAt v 10;
+  sorter1 = sorterAt v 6;
+  sorter2 = sorterAt v 9;
+  sorter3 = sorterAt v 12;
+  sorter4 = sorterAt v 15;
+  sorter5 = sorterAt v 18;
+  sorter6 = sorterAt v 21;
+  stop = sizeAt v 24;
+  need = sizeAt v 25;
 }
 
 abbrev pub settingsOf : List ℤ → Settings
@@ -61,9 +68,14 @@ sample = record {
   means = λ v. read.Event (event.Sample (sampleOf v));
 }
 
+-- 02, T-01: "The setup line ends its ts, to and sort fields with 1 to 6: ts1 to1 sort1 up to ts6 to6 sort6, then stop and need."
 abbrev pub setup : Kind
 setup = record {
-  form = fieldsForm ("mode" ∷ "edge" ∷ "tc" ∷ "tw" ∷ "ta" ∷ "tf" ∷ "ts" ∷ "to" ∷ "sort" ∷ "stop" ∷ "need" ∷ []);
+  form = fieldsForm
+      ("mode" ∷ "edge" ∷ "tc" ∷ "tw" ∷ "ta" ∷ "tf"
+      ∷ "ts1" ∷ "to1" ∷ "sort1" ∷ "ts2" ∷ "to2" ∷ "sort2" ∷ "ts3" ∷ "to3" ∷ "sort3"
+      ∷ "ts4" ∷ "to4" ∷ "sort4" ∷ "ts5" ∷ "to5" ∷ "sort5" ∷ "ts6" ∷ "to6" ∷ "sort6"
+      ∷ "stop" ∷ "need" ∷ []);
   means = λ v. read.Event (event.Setup (setupOf v));
 }
 
@@ -112,9 +124,9 @@ abbrev pub firstOf : List Kind → List ℕ → Read
 firstOf [] s = read.Other
 firstOf (k ∷ more) s = says (held (lineValues (k .form) s)) (k .means) (firstOf more s)
 
--- "over 120 bytes" is no line
+-- "over 120 bytes" is no line; by T-01 "Lines may be 300 bytes"
 abbrev pub longestLine : ℕ
-longestLine = 120
+longestLine = 300
 
 abbrev pub readLine : List ℕ → Read
 readLine s = if leb (length s) longestLine then firstOf kinds s else read.Other

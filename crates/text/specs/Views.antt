@@ -29,7 +29,7 @@ valueHead b s = if eqb b (code "#") then numberHead s else fourHead s
 
 -- setup's: no form has more
 abbrev pub mostValues : ℕ
-mostValues = 11
+mostValues = 26
 
 -- the first n values, each by its place
 abbrev pub firsts : ℕ → (ℕ → ℤ) → List ℤ

@@ -12,7 +12,7 @@ use numeral::read_four;
 use numeral::read_number;
 
 // A form has at most so many values.
-const MOST_VALUES: usize = 11;
+const MOST_VALUES: usize = 26;
 
 // The values of a line, where `ok`.
 pub(crate) struct Fields {

@@ -9,7 +9,7 @@ mod reader;
 pub use reader::read_line;
 
 // A line of text has at most so many bytes.
-pub const LONGEST_LINE: usize = 120;
+pub const LONGEST_LINE: usize = 300;
 
 pub enum Read {
     Event(Event),

@@ -1,10 +1,11 @@
 // What the values of a line say.
 ghost use mathlib.Core.Path.{_≡_};
-ghost use Prim.Native.Nat.{_<_};
+ghost use Prim.Native.Nat.{_+_, _<_};
 ghost use lib.ListN.{length};
-ghost use Rattle.text.specs.Read.{sizeAt, sampleOf, setupOf, settingsOf};
+ghost use Rattle.text.specs.Read.{sizeAt, sampleOf, sorterAt, setupOf, settingsOf};
 use event::Sample;
 use event::Setup;
+use event::SorterSetup;
 use numeral::unsigned_of;
 use settings::Settings;
 
@@ -29,8 +30,20 @@ pub(crate) fn sample_of(v: &[i64]) -> Sample
     }
 }
 
+// One sorter's three values, from i on.
+fn sorter_at(v: &[i64], i: usize) -> SorterSetup
+    requires { ⌜ i + 2 < length (now v) ⌝ }
+    ensures { λ r. ⌜ r ≡ sorterAt (now (v .entry)) i ⌝ }
+{
+    SorterSetup {
+        ts: size_at(v, i),
+        to: size_at(v, i + 1),
+        sort: size_at(v, i + 2),
+    }
+}
+
 pub(crate) fn setup_of(v: &[i64]) -> Setup
-    requires { ⌜ 10 < length (now v) ⌝ }
+    requires { ⌜ 25 < length (now v) ⌝ }
     ensures { λ r. ⌜ r ≡ setupOf (now (v .entry)) ⌝ }
 {
     Setup {
@@ -40,11 +53,14 @@ pub(crate) fn setup_of(v: &[i64]) -> Setup
         tw: size_at(v, 3),
         ta: size_at(v, 4),
         tf: size_at(v, 5),
-        ts: size_at(v, 6),
-        to: size_at(v, 7),
-        sort: size_at(v, 8),
-        stop: size_at(v, 9),
-        need: size_at(v, 10),
+        sorter1: sorter_at(v, 6),
+        sorter2: sorter_at(v, 9),
+        sorter3: sorter_at(v, 12),
+        sorter4: sorter_at(v, 15),
+        sorter5: sorter_at(v, 18),
+        sorter6: sorter_at(v, 21),
+        stop: size_at(v, 24),
+        need: size_at(v, 25),
     }
 }
 

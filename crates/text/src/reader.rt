@@ -41,7 +41,7 @@ fn read_setup(line: &[u8]) -> Read
 {
     let r = read_form(
         line,
-        b"mode=# edge=# tc=# tw=# ta=# tf=# ts=# to=# sort=# stop=# need=#",
+        b"mode=# edge=# tc=# tw=# ta=# tf=# ts1=# to1=# sort1=# ts2=# to2=# sort2=# ts3=# to3=# sort3=# ts4=# to4=# sort4=# ts5=# to5=# sort5=# ts6=# to6=# sort6=# stop=# need=#",
     );
     if !r.ok {
         return Read::Other;

@@ -1,4 +1,4 @@
--- 01, "Text lines": the worked example, and what it prints; sdp with one decimal by request T-06 of 02.
+-- 01, "Text lines": the worked example, and what it prints; by 02 the setup line has six sorters (T-01), each set as 01 sets its one, and sdp one decimal (T-06).
 use Prim.Native.Nat.{ℕ}
 use mathlib.Core.Path.{_≡_}
 use mathlib.Core.List.{List, [], _∷_, _++_}
@@ -13,7 +13,7 @@ lines (l ∷ ls) = bytes l ++ lf ∷ lines ls
 
 abbrev pub exampleInput : List String
 exampleInput =
-    "mode=1 edge=1 tc=0 tw=0 ta=2 tf=0 ts=1 to=1 sort=0 stop=0 need=0"
+    "mode=1 edge=1 tc=0 tw=0 ta=2 tf=0 ts1=1 to1=1 sort1=0 ts2=1 to2=1 sort2=0 ts3=1 to3=1 sort3=0 ts4=1 to4=1 sort4=0 ts5=1 to5=1 sort5=0 ts6=1 to6=1 sort6=0 stop=0 need=0"
     ∷ "code=0 target=1000 lolo=900 lo=990 hi=1010 hihi=1100 nearzero=100 tare=0"
     ∷ "COPR"
     ∷ "sensor=1 emergency=0 safety=255 foreign=0 gross=500"

@@ -5,6 +5,7 @@ use lib.IntN.{pos, negsuc}
 use Rattle.decimal.specs.Bytes.{bytes}
 use Rattle.text.specs.declared.Read.{Read}
 use Rattle.text.specs.declared.Read.the-variants as read
+use Rattle.event.specs.declared.SorterSetup.{SorterSetup}
 use Rattle.event.specs.declared.Event.the-variants as event
 use Rattle.numeral.specs.Number.{limit}
 use Rattle.text.specs.Read.{readLine}
@@ -12,17 +13,23 @@ use Rattle.text.specs.Read.{readLine}
 abbrev pub said : String → Read
 said s = readLine (bytes s)
 
+abbrev sorter : SorterSetup
+sorter = record { ts = 1; to = 1; sort = 0 }
+
 pub record Reading : Type 0 where
-  pub setup : said "mode=1 edge=1 tc=0 tw=0 ta=2 tf=0 ts=1 to=1 sort=0 stop=0 need=0" ≡ read.Event (event.Setup (record {
+  pub setup : said "mode=1 edge=1 tc=0 tw=0 ta=2 tf=0 ts1=1 to1=1 sort1=0 ts2=1 to2=1 sort2=0 ts3=1 to3=1 sort3=0 ts4=1 to4=1 sort4=0 ts5=1 to5=1 sort5=0 ts6=1 to6=1 sort6=0 stop=0 need=0" ≡ read.Event (event.Setup (record {
     mode = 1;
     edge = 1;
     tc = 0;
     tw = 0;
     ta = 2;
     tf = 0;
-    ts = 1;
-    to = 1;
-    sort = 0;
+    sorter1 = sorter;
+    sorter2 = sorter;
+    sorter3 = sorter;
+    sorter4 = sorter;
+    sorter5 = sorter;
+    sorter6 = sorter;
     stop = 0;
     need = 0;
   }))
@@ -56,9 +63,11 @@ pub record Reading : Type 0 where
   -- well formed, but too large or too small: carried out of range
   pub large : said "report=99999999999999999999999999999999999999" ≡ read.Report limit
   pub small : said "report=-1" ≡ read.Report limit
-  -- 120 bytes, and one more
-  pub longest : said "report=99999999999999999999999999999999999999999999999999999999999999999999999999999999999999999999999999999999999999999" ≡ read.Report limit
-  pub too-long : said "report=999999999999999999999999999999999999999999999999999999999999999999999999999999999999999999999999999999999999999999" ≡ read.Other
+  -- the setup line of one sorter is none any more
+  pub one-sorter : said "mode=1 edge=1 tc=0 tw=0 ta=2 tf=0 ts=1 to=1 sort=0 stop=0 need=0" ≡ read.Other
+  -- 300 bytes, and one more
+  pub longest : said "report=99999999999999999999999999999999999999999999999999999999999999999999999999999999999999999999999999999999999999999999999999999999999999999999999999999999999999999999999999999999999999999999999999999999999999999999999999999999999999999999999999999999999999999999999999999999999999999999999999999" ≡ read.Report limit
+  pub too-long : said "report=999999999999999999999999999999999999999999999999999999999999999999999999999999999999999999999999999999999999999999999999999999999999999999999999999999999999999999999999999999999999999999999999999999999999999999999999999999999999999999999999999999999999999999999999999999999999999999999999999999" ≡ read.Other
   -- not well formed
   pub plus : said "report=+1" ≡ read.Other
   pub leading-zero : said "report=007" ≡ read.Other

@@ -9,6 +9,8 @@ pub const WEIGHT: i64 = 999_999;
 pub const TIMER: i64 = 9_999;
 /// Codes are 0 to CODES - 1.
 pub const CODES: i64 = 100;
+/// Sorters are 1 to SORTERS.
+pub const SORTERS: usize = 6;
 
 #[derive(Clone, Copy, Debug, PartialEq, Eq)]
 pub enum Event {
@@ -49,13 +51,19 @@ pub struct Setup {
     pub ta: i64,
     /// Foreign delay.
     pub tf: i64,
+    pub sorters: [SorterSetup; SORTERS],
+    pub stop: i64,
+    pub need: i64,
+}
+
+/// What one sorter is set to.
+#[derive(Clone, Copy, Debug, PartialEq, Eq)]
+pub struct SorterSetup {
     /// Sorter wait.
     pub ts: i64,
     /// Sorter on-time.
     pub to: i64,
     pub sort: i64,
-    pub stop: i64,
-    pub need: i64,
 }
 
 /// One code's settings record.
@@ -96,6 +104,14 @@ impl Sample {
     }
 }
 
+impl SorterSetup {
+    fn in_range(&self) -> bool {
+        [self.ts, self.to].iter().all(|t| (1..=TIMER).contains(t))
+            && is_mask(self.sort)
+            && self.sort & 1 == 0 // a crash found no place to be sorted from
+    }
+}
+
 impl Setup {
     /// The setup of a fresh line.
     pub const FRESH: Setup = Setup {
@@ -105,9 +121,7 @@ impl Setup {
         tw: 72,
         ta: 35,
         tf: 0,
-        ts: 100,
-        to: 50,
-        sort: 0,
+        sorters: [SorterSetup { ts: 100, to: 50, sort: 0 }; SORTERS],
         stop: 0,
         need: 0,
     };
@@ -116,9 +130,9 @@ impl Setup {
         (1..=2).contains(&self.mode)
             && (1..=2).contains(&self.edge)
             && [self.tc, self.tw, self.tf].iter().all(|t| (0..=TIMER).contains(t))
-            && [self.ta, self.ts, self.to].iter().all(|t| (1..=TIMER).contains(t))
-            && [self.sort, self.stop, self.need].into_iter().all(is_mask)
-            && self.sort & 1 == 0 // a crash found no place to be sorted from
+            && (1..=TIMER).contains(&self.ta)
+            && self.sorters.iter().all(SorterSetup::in_range)
+            && [self.stop, self.need].into_iter().all(is_mask)
     }
 
     /// Mode 2 needs edge 2.

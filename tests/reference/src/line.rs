@@ -1,6 +1,6 @@
 //! The line: its record, the reply, and every event but the sample.
 
-use crate::event::{is_code, Event, Settings, Setup};
+use crate::event::{is_code, Event, Settings, Setup, SORTERS};
 use crate::foreign::Foreign;
 use crate::memory::Memory;
 use crate::refusal::Refusal;
@@ -40,7 +40,7 @@ pub struct Line {
     pub safety: i64,
     pub foreign: Foreign,
     pub item: Item,
-    pub sorter: Sorter,
+    pub sorters: [Sorter; SORTERS],
     pub error: Option<u8>,
     /// The active tally as before the last verdict: the chance to cancel.
     pub kept: Option<Tally>,
@@ -66,7 +66,8 @@ pub struct Reply {
     pub status: Status,
     pub busy: bool,
     pub conveyor: bool,
-    pub sorter: bool,
+    /// Bit k-1 for sorter k.
+    pub sorter: u8,
     pub done: Done,
     pub error: Option<u8>,
 }
@@ -84,7 +85,7 @@ impl Line {
             safety: 255,
             foreign: Foreign::default(),
             item: Item::None,
-            sorter: Sorter::default(),
+            sorters: [Sorter::default(); SORTERS],
             error: None,
             kept: None,
         }
@@ -113,21 +114,30 @@ impl Line {
         let empty = self.item == Item::None;
         Reply {
             status: self.status,
-            busy: !empty || self.sorter.is_busy(),
+            busy: !empty || self.is_sorting(),
             conveyor: running && (self.setup.mode == 1 || empty),
-            sorter: running && self.sorter.is_on(),
+            sorter: if running { self.sorters_on() } else { 0 },
             done,
             error: self.error,
         }
     }
 
-    /// Entering status 0 or 3: an item in hand is abandoned, the queue
-    /// emptied, the sorter off, the error none. Foreign signals are kept.
+    fn is_sorting(&self) -> bool {
+        self.sorters.iter().any(Sorter::is_busy)
+    }
+
+    fn sorters_on(&self) -> u8 {
+        let bits = self.sorters.iter().enumerate();
+        bits.fold(0, |on, (k, sorter)| on | u8::from(sorter.is_on()) << k)
+    }
+
+    /// Entering status 0 or 3: an item in hand is abandoned, the queues
+    /// emptied, the sorters off, the error none. Foreign signals are kept.
     pub(crate) fn rest(&mut self, status: Status) -> Done {
         let abandoned = self.item != Item::None;
         self.status = status;
         self.item = Item::None;
-        self.sorter = Sorter::default();
+        self.sorters = [Sorter::default(); SORTERS];
         self.error = None;
         Done { outcome: if abandoned { Done::ABANDONED } else { 0 }, ..Done::default() }
     }
@@ -158,7 +168,7 @@ impl Line {
     }
 
     fn stop(&mut self) -> Result<Done, Refusal> {
-        let busy = self.item != Item::None || self.sorter.is_busy();
+        let busy = self.item != Item::None || self.is_sorting();
         match self.status {
             Status::Emergency => Err(Refusal::EMERGENCY),
             Status::Running if busy => {

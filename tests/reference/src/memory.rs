@@ -3,6 +3,7 @@
 use crate::event::{Settings, CODES};
 use crate::tally::Tally;
 
+#[derive(Clone)]
 pub struct Memory {
     pub settings: [Settings; CODES as usize],
     pub tallies: [Tally; CODES as usize],

@@ -5,12 +5,14 @@ use crate::refusal::Refusal;
 use crate::sheet::Sheet;
 
 pub fn reply(out: &mut Vec<u8>, reply: &Reply) {
-    let mut text = *b"status=0 busy=0 conveyor=0 sorter=0 detected=0 outcome=";
+    let mut text = *b"status=0 busy=0 conveyor=0 sorter=";
     text[7] += reply.status as u8;
     text[14] += reply.busy as u8;
     text[25] += reply.conveyor as u8;
-    text[34] += reply.sorter as u8;
-    text[45] += reply.done.detected as u8;
+    out.extend_from_slice(&text);
+    number(out, i64::from(reply.sorter));
+    let mut text = *b" detected=0 outcome=";
+    text[10] += reply.done.detected as u8;
     out.extend_from_slice(&text);
     number(out, reply.done.outcome);
     out.extend_from_slice(b" net=");

@@ -1,9 +1,9 @@
 //! Reading one text line: an event, a report, or neither.
 
-use crate::event::{Event, Sample, Settings, Setup};
+use crate::event::{Event, Sample, Settings, Setup, SorterSetup, SORTERS};
 
 /// The longest line in bytes, its LF not counted.
-pub const LONGEST: usize = 120;
+pub const LONGEST: usize = 300;
 
 #[derive(Clone, Copy, Debug, PartialEq, Eq)]
 pub enum Request {
@@ -11,7 +11,7 @@ pub enum Request {
     Report { code: i64 },
 }
 
-/// None is text that is no line of document 01: refused 1.
+/// None is text that is no line of documents 01 and 02: refused 1.
 pub fn request(line: &[u8]) -> Option<Request> {
     if line.len() > LONGEST {
         return None;
@@ -33,12 +33,18 @@ fn sample(line: &[u8]) -> Option<Event> {
 }
 
 fn setup(line: &[u8]) -> Option<Event> {
+    #[rustfmt::skip]
     let keys = [
-        "mode=", " edge=", " tc=", " tw=", " ta=", " tf=", " ts=", " to=", " sort=", " stop=",
-        " need=",
+        "mode=", " edge=", " tc=", " tw=", " ta=", " tf=",
+        " ts1=", " to1=", " sort1=", " ts2=", " to2=", " sort2=", " ts3=", " to3=", " sort3=",
+        " ts4=", " to4=", " sort4=", " ts5=", " to5=", " sort5=", " ts6=", " to6=", " sort6=",
+        " stop=", " need=",
     ];
-    let [mode, edge, tc, tw, ta, tf, ts, to, sort, stop, need] = fields(line, keys)?;
-    Some(Event::Setup(Setup { mode, edge, tc, tw, ta, tf, ts, to, sort, stop, need }))
+    let [mode, edge, tc, tw, ta, tf, sorting @ .., stop, need] = fields(line, keys)?;
+    let sorter =
+        |k| SorterSetup { ts: sorting[3 * k], to: sorting[3 * k + 1], sort: sorting[3 * k + 2] };
+    let sorters: [SorterSetup; SORTERS] = std::array::from_fn(sorter);
+    Some(Event::Setup(Setup { mode, edge, tc, tw, ta, tf, sorters, stop, need }))
 }
 
 fn store(line: &[u8]) -> Option<Event> {

@@ -21,7 +21,9 @@ impl Line {
             self.pause(1); // step 3
             return Ok(Done::default());
         }
-        self.sorter.tick(self.setup.to); // step 4
+        for (sorter, set) in self.sorters.iter_mut().zip(&self.setup.sorters) {
+            sorter.tick(set.to); // step 4
+        }
         if !self.foreign.tick(foreign_change, self.setup.tf) {
             self.pause(7); // a ninth signal, after step 5 and before step 6
             return Ok(Done::default());
@@ -109,16 +111,20 @@ impl Line {
         let net = m - settings.tare;
         let grade = Verdict::grade(net, settings);
         let due = if self.foreign.use_up() { Verdict::Foreign } else { grade };
-        if due.is_in(self.setup.sort) && self.sorter.is_full() {
+        // Only the queues it would enter count; as crash it then enters none, crash having no sort bit.
+        let mut wanted = self.sorters.iter().zip(&self.setup.sorters);
+        if wanted.any(|(sorter, set)| due.is_in(set.sort) && sorter.is_full()) {
             return self.give(memory, Verdict::Crash, 0);
         }
         self.give(memory, due, if due.is_graded() { net } else { 0 })
     }
 
-    /// Gives a verdict: queued by its sort bit, pausing by its stop bit, and tallied.
+    /// Gives a verdict: queued by each sort bit, pausing by its stop bit, and tallied.
     fn give(&mut self, memory: &mut Memory, verdict: Verdict, net: i64) -> Done {
-        if verdict.is_in(self.setup.sort) {
-            self.sorter.queue(self.setup.ts);
+        for (sorter, set) in self.sorters.iter_mut().zip(&self.setup.sorters) {
+            if verdict.is_in(set.sort) {
+                sorter.queue(set.ts);
+            }
         }
         if verdict.is_in(self.setup.stop) {
             self.pause(verdict.error());

@@ -1,4 +1,4 @@
-//! The sorter: a queue of waits and the on-time.
+//! One sorter: a queue of waits and the on-time.
 
 #[derive(Clone, Copy, Debug, Default, PartialEq, Eq)]
 pub struct Sorter {

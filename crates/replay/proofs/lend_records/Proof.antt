@@ -208,7 +208,7 @@ module _ {M : Type 1} (𝓤 : URA M) (H : Heap 𝓤) (A : Atoms 𝓤) (W : Given
     walk =
         qed W ((‵ (flft κ₁ q₁) ⊛ ‵ ftrue) ∷ ‵ (owns (L.the-row ∷ Array R 100 ∷ MutSlice (named 0) κ₁ i64 ∷ E.the-row ∷ []) a at) ∷ []) ∵ enter ! C Λ code.function (lv ∷ machs xs ∷ s₁ ∷ v ∷ []) _ $
         alloc1 ! (λ l₀. alloc1 ! (λ l₁. alloc1 ! (λ l₂. alloc1 ! (λ l₃. alloc1 ! (λ l₄. alloc1 ! (λ l₅. alloc1 ! (λ l₆. alloc1 ! (λ l₇. alloc1 ! (λ l₈. alloc1 ! (λ l₉. alloc1 ! (λ l₁₀. alloc1 ! (λ l₁₁. alloc0 ! $ params1 ! $
-        pass1 ! (init ! 20 refl line-typed) $ pass1 ! (init ! 18 refl (records-typed xs xs-is)) $ pass1 ! (init ! 16 refl (tt, (tt, (record { fits = room₁ .0 }, tt)))) $ pass1 ! (init ! 14 refl ev-typed) $ pass0 ! $
+        pass1 ! (init ! 20 {τ = L′.mir} {v = lv} refl line-typed) $ pass1 ! (init ! 18 refl (records-typed xs xs-is)) $ pass1 ! (init ! 16 refl (tt, (tt, (record { fits = room₁ .0 }, tt)))) $ pass1 ! (init ! 14 {τ = E′.mir} {v = v} refl ev-typed) $ pass0 ! $
         move ! (25 ∷ []) $ fsplit ! $ drop ! $ fsplit ! $ drop ! $ fsplit ! $ move ! (1 ∷ []) $ drop ! $ move ! (25 ∷ []) $ split ! $ move ! (1 ∷ []) $ drop ! $
         -- [κ₁'s token; the tallies; _11; …; _0; …]: local k stands at 2 + 2 · (11 − k)
         assigns ! (of-opd ! (load ! (from ! (stop !)) (look ! 20 refl))) (from ! (stop !)) (init ! 14 refl (records-typed xs xs-is)) $
@@ -221,14 +221,14 @@ module _ {M : Type 1} (𝓤 : URA M) (H : Heap 𝓤) (A : Atoms 𝓤) (W : Given
         use1 W (later (some (λ (δ : GName). ‵ (Lent l₅ ν δ) ⊛ ‵ (flent (ν ∷ []) (Held R (length xs) l₅ 0 δ))))) (arr-lends 𝓤 H A W R 100 (named 0) (ν ∷ []) l₅ (LL.makes T.the-type T′.the-plain 𝓤 H A) tt hundred xs (machs xs) xs-is) $ await ! tt $ pick ! (λ δ. split ! $
         move ! (2 ∷ 3 ∷ 0 ∷ 4 ∷ []) $ join ! $ use3 W (raw (Apply 𝓤 H A mem run .pre (to l₅ ν δ))) (asks l₅ ν δ) $
         -- [what `apply` asks; the lender's part; _11; …; _6; …; what frees _5; _4; …; _0; …]
-        calls-at ! fm (Apply 𝓤 H A mem run) known (to l₅ ν δ) (and-then ! (load ! (from ! (stop !)) (look ! 21 refl)) (and-then ! (load ! (from ! (stop !)) (look ! 8 refl)) (and-then ! (load ! (from ! (stop !)) (look ! 4 refl)) (and-then ! (load ! (from ! (stop !)) (look ! 15 refl)) (no-more !))))) (λ u.
+        calls-at ! fm (Apply 𝓤 H A mem run) known (to l₅ ν δ) (and-then ! (load ! (from ! (stop !)) (look ! 21 {τ = L′.mir} {v = lv} refl)) (and-then ! (load ! (from ! (stop !)) (look ! 8 refl)) (and-then ! (load ! (from ! (stop !)) (look ! 4 refl)) (and-then ! (load ! (from ! (stop !)) (look ! 15 {τ = E′.mir} {v = v} refl)) (no-more !))))) (λ u.
         use2 W (later (some (λ (r : Step). given (r ≡ out) (given (Is S.the-row r (u ∷ [])) (given (length us ≡ length ts) (given (Is (Array R 100) zs (machs zs ∷ [])) (‵ (fat fullShare (tyArray (lone (R .mir)) 100) l₅ 0 (machs zs)) ⊛ (‵ (finally i64 γ₁ us) ⊛ ‵ (flft κ₁ q₁))))))))) (ended l₅ ν δ u) $ await ! tt $
         pick ! (λ r. learn ! (λ e. learn ! (λ r-is. learn ! (λ l. learn ! (λ zs-is. split ! $ move ! (1 ∷ []) $ split ! $
         -- [the last tallies; κ₁'s token; _5; _11; …; _6; …; what frees _5; _4; …; _0; …]
-        land ! (from ! (stop !)) (init ! 13 refl (step-typed r u r-is zs-is)) $
+        land ! (from ! (stop !)) (init ! 13 {τ = S′.mir} {v = u} refl (step-typed r u r-is zs-is)) $
         assigns ! (of-opd ! (load ! (from ! (stop !)) (look ! 2 refl))) (from ! (stop !)) (init ! 3 refl (records-typed zs zs-is)) $
-        assigns ! (agg ! (and-then ! (load ! (from ! (stop !)) (look ! 13 refl)) (and-then ! (load ! (from ! (stop !)) (look ! 3 refl)) (no-more !)))) (from ! (stop !)) (init ! 24 refl (result-typed r u r-is zs-is)) $
-        returns ! (look ! 24 refl) $ forget ! 2 refl $ forget ! 3 refl $ forget ! 5 refl $ forget ! 7 refl $ forget ! 9 refl $ forget ! 11 refl $ forget ! 13 refl $ forget ! 16 refl $ forget ! 18 refl $ forget ! 20 refl $ forget ! 22 refl $ forget ! 24 refl $
+        assigns ! (agg ! (and-then ! (load ! (from ! (stop !)) (look ! 13 {τ = S′.mir} {v = u} refl)) (and-then ! (load ! (from ! (stop !)) (look ! 3 refl)) (no-more !)))) (from ! (stop !)) (init ! 24 {τ = D′.mir} {v = pairVal u zs} refl (result-typed r u r-is zs-is)) $
+        returns ! (look ! 24 {τ = D′.mir} {v = pairVal u zs} refl) $ forget ! 2 refl $ forget ! 3 refl $ forget ! 5 refl $ forget ! 7 refl $ forget ! 9 refl $ forget ! 11 refl $ forget ! 13 refl $ forget ! 16 refl $ forget ! 18 refl $ forget ! 20 refl $ forget ! 22 refl $ forget ! 24 refl $
         move ! (24 ∷ 25 ∷ []) $ free1 ! $ move ! (22 ∷ 23 ∷ []) $ free1 ! $ move ! (20 ∷ 21 ∷ []) $ free1 ! $ move ! (18 ∷ 19 ∷ []) $ free1 ! $ move ! (16 ∷ 17 ∷ []) $ free1 ! $ move ! (2 ∷ 15 ∷ []) $ free1 ! $
         move ! (12 ∷ 13 ∷ []) $ free1 ! $ move ! (10 ∷ 11 ∷ []) $ free1 ! $ move ! (8 ∷ 9 ∷ []) $ free1 ! $ move ! (6 ∷ 7 ∷ []) $ free1 ! $ move ! (4 ∷ 5 ∷ []) $ free1 ! $ move ! (2 ∷ 3 ∷ []) $ free1 ! $ free0 ! $
         keep ! (0 ∷ 1 ∷ []) $ by ! (exits r u r-is zs-is e l)))))))))))))))))))))

@@ -14,6 +14,7 @@ returns c = record {
   below = refl;
   large = refl;
   small = refl;
+  one-sorter = refl;
   longest = refl;
   too-long = refl;
   plus = refl;

@@ -7,6 +7,9 @@ use super::random::Random;
 use super::Source;
 use crate::read::LONGEST;
 
+/// The setup line of document 01, which T-01 put another in the place of.
+const ONE_SORTER: &[u8] = b"mode=1 edge=1 tc=0 tw=0 ta=2 tf=0 ts=1 to=1 sort=0 stop=0 need=0";
+
 pub struct Damaged {
     mixed: Mixed,
     random: Random,
@@ -120,8 +123,8 @@ fn damage_value(mut text: Vec<u8>, random: &mut Random) -> Vec<u8> {
         9 => random.pick(&["\u{0661}", "\u{ff11}", "\u{2212}1", "\u{b2}"]).into(),
         10 => random.pick(&["4294967296", "4294967297", "18446744073709551616"]).into(),
         11 => random.pick(&["9223372036854775808", "-9223372036854775809", "65536"]).into(),
-        12 => format!("-{}", digits(random, 20, 120)),
-        _ => digits(random, 20, 120),
+        12 => format!("-{}", digits(random, 20, 300)),
+        _ => digits(random, 20, 300),
     };
     text.splice(place, new.into_bytes());
     text
@@ -193,13 +196,14 @@ fn damage_command(random: &mut Random) -> Vec<u8> {
 }
 
 fn damage_whole(text: Vec<u8>, random: &mut Random) -> Vec<u8> {
-    match random.between(0, 6) {
+    match random.between(0, 7) {
         0 => Vec::new(),
         1 => text.to_ascii_uppercase(),
         2 => text.to_ascii_lowercase(),
         3 => [text.as_slice(), text.as_slice()].concat(),
         4 => text[..random.below(text.len() + 1)].to_vec(),
         5 => text.into_iter().rev().collect(),
-        _ => (0..random.between(1, 200)).map(|_| random.between(0, 255) as u8).collect(),
+        6 => ONE_SORTER.into(),
+        _ => (0..random.between(1, 400)).map(|_| random.between(0, 255) as u8).collect(),
     }
 }

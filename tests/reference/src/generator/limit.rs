@@ -8,6 +8,11 @@ use crate::read::{self, Request};
 use crate::stream::Program;
 use crate::tally::Tally;
 
+/// Every verdict enters sorter 1; the other sorters are as on a fresh line.
+const SETUP: &str = "mode=1 edge=1 tc=0 tw=0 ta=1 tf=0 ts1=9 to1=2 sort1=254 \
+    ts2=100 to2=50 sort2=0 ts3=100 to3=50 sort3=0 ts4=100 to4=50 sort4=0 \
+    ts5=100 to5=50 sort5=0 ts6=100 to6=50 sort6=0 stop=0 need=0";
+
 /// What the boxes of a stream weigh.
 enum Boxes {
     /// At and between the ends, some with a foreign signal.
@@ -77,7 +82,6 @@ impl Limit {
     }
 
     fn text(&mut self) -> String {
-        let setup = "mode=1 edge=1 tc=0 tw=0 ta=1 tf=0 ts=9 to=2 sort=254 stop=0 need=0";
         let tare = match self.boxes {
             Boxes::Any => 500_000, // so that the nets have either sign
             _ => 0,
@@ -86,7 +90,7 @@ impl Limit {
         let full = total > Tally::LIMIT - 5;
         let turning = matches!(self.boxes, Boxes::Ends) && total >= Tally::LIMIT / 2;
         match self.lines {
-            1 => setup.into(),
+            1 => SETUP.into(),
             2 => store(0, tare),
             3 => store(1, tare),
             4 => "COPR".into(),

@@ -3,7 +3,7 @@
 use super::belt::Belt;
 use super::random::Random;
 use super::Source;
-use crate::event::{Event, Settings, Setup, TIMER, WEIGHT};
+use crate::event::{Event, Settings, Setup, SorterSetup, SORTERS, TIMER, WEIGHT};
 use crate::line::Status;
 use crate::read::{self, Request};
 use crate::stream::Program;
@@ -171,26 +171,33 @@ impl Mixed {
     }
 
     fn setup(&mut self) -> String {
-        let Setup { mode, edge, tc, tw, ta, tf, ts, to, sort, stop, need } = self.timers();
-        let mut v = [mode, edge, tc, tw, ta, tf, ts, to, sort, stop, need];
-        let most = [2, 2, TIMER, TIMER, TIMER, TIMER, TIMER, TIMER, 254, 255, 255];
-        self.stretch(&mut v, &most, 90);
+        let Setup { mode, edge, tc, tw, ta, tf, sorters, stop, need } = self.timers();
+        let mut v = vec![mode, edge, tc, tw, ta, tf];
+        let mut most = vec![2, 2, TIMER, TIMER, TIMER, TIMER];
+        for SorterSetup { ts, to, sort } in sorters {
+            v.extend([ts, to, sort]);
+            most.extend([TIMER, TIMER, 254]);
+        }
+        v.extend([stop, need]);
+        most.extend([255, 255]);
+        self.stretch(&mut v, &most, 200);
+        let sorting = (1..=SORTERS).zip(v[6..].chunks(3));
+        let sorting: String = sorting
+            .map(|(k, s)| format!(" ts{k}={} to{k}={} sort{k}={}", s[0], s[1], s[2]))
+            .collect();
         format!(
-            "mode={} edge={} tc={} tw={} ta={} tf={} ts={} to={} sort={} stop={} need={}",
-            v[0], v[1], v[2], v[3], v[4], v[5], v[6], v[7], v[8], v[9], v[10]
+            "mode={} edge={} tc={} tw={} ta={} tf={}{sorting} stop={} need={}",
+            v[0], v[1], v[2], v[3], v[4], v[5], v[24], v[25]
         )
     }
 
-    /// Short timers mostly; at times waits so long that the queue overflows.
+    /// Short timers mostly.
     fn timers(&mut self) -> Setup {
         let random = &mut self.random;
         let (mode, edge) = random.pick(&[(1, 1), (1, 1), (1, 2), (1, 2), (2, 2), (2, 2), (2, 1)]);
-        let overflow = random.chance(300);
-        let crash = i64::from(!random.chance(40)); // a bit that sort must not have
         let long = random.chance(60);
-        let ts = if overflow { random.between(100, 3000) } else { random.between(1, 25) };
+        let sorters = sorters(random, if long { 60 } else { 6 });
         let [a, b, c] = [(); 3].map(|()| random.between(0, 255));
-        let sort = if overflow { a | b } else { a };
         let [one, other] = [(); 2].map(|()| 1 << random.between(0, 7));
         Setup {
             mode,
@@ -199,9 +206,7 @@ impl Mixed {
             tw: random.between(0, if long { 80 } else { 4 }),
             ta: random.between(1, if long { 40 } else { 4 }),
             tf: random.between(0, if long { 60 } else { 6 }),
-            ts,
-            to: random.between(1, if long { 60 } else { 6 }),
-            sort: sort & !crash,
+            sorters,
             stop: random.pick(&[0, 0, one, a & b & c, b & c]),
             need: random.pick(&[0, 0, other, a & c]),
         }
@@ -244,12 +249,38 @@ impl Mixed {
         if self.random.chance(per_thousand) {
             let place = self.random.below(values.len());
             let most = most[place];
-            let ends = [0, most, most + 1, most + 1, -most, -most - 1, -1];
+            let ends = [0, most, most, most + 1, most + 1, -most, -most - 1, -1];
             let beyond = [most * 10 + 9, 1 << 16, 1 << 32, i64::MAX, i64::MIN];
             let near = self.random.chance(600);
             values[place] = if near { self.random.pick(&ends) } else { self.random.pick(&beyond) };
         }
     }
+}
+
+/// Sorters of any masks, so that several want one verdict. At times some have waits so long
+/// that their queues overflow beside others with room; at times all six are on together.
+fn sorters(random: &mut Random, longest_on: i64) -> [SorterSetup; SORTERS] {
+    let overflow = random.chance(500);
+    let together = random.chance(150);
+    let common = random.between(0, 255);
+    let mut sorters = [(); SORTERS].map(|()| {
+        let [a, b] = [(); 2].map(|()| random.between(0, 255));
+        let full = overflow && random.chance(400);
+        SorterSetup {
+            ts: if full { random.between(100, 3000) } else { random.between(1, 25) },
+            to: if together { random.between(20, 60) } else { random.between(1, longest_on) },
+            sort: 254
+                & match (together, full) {
+                    (true, _) => common | a & b,
+                    (false, true) => a | b,
+                    (false, false) => random.pick(&[0, a, a & b]),
+                },
+        }
+    });
+    if random.chance(40) {
+        sorters[random.below(SORTERS)].sort |= 1; // a bit that sort must not have
+    }
+    sorters
 }
 
 impl Source for Mixed {

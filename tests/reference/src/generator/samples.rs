@@ -7,8 +7,10 @@ use super::Source;
 /// tick 10, with its full weight on it from 20 to 44.
 const CYCLE: i64 = 60;
 
-/// Everything but OK is sorted out.
-const SETUP: &str = "mode=1 edge=2 tc=2 tw=8 ta=16 tf=5 ts=40 to=12 sort=222 stop=0 need=1";
+/// Everything but OK is sorted out by sorter 1; the other sorters are as on a fresh line.
+const SETUP: &str = "mode=1 edge=2 tc=2 tw=8 ta=16 tf=5 ts1=40 to1=12 sort1=222 \
+    ts2=100 to2=50 sort2=0 ts3=100 to3=50 sort3=0 ts4=100 to4=50 sort4=0 \
+    ts5=100 to5=50 sort5=0 ts6=100 to6=50 sort6=0 stop=0 need=1";
 const STORE: &str = "code=0 target=1000 lolo=900 lo=990 hi=1010 hihi=1100 nearzero=100 tare=0";
 
 pub struct Samples {

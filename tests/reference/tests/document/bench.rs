@@ -2,14 +2,21 @@
 
 use reference::stream::Program;
 
-const SETUP: &str = "mode=1 edge=1 tc=0 tw=0 ta=1 tf=0 ts=1 to=1 sort=0 stop=0 need=0";
+const SETUP: &str = "mode=1 edge=1 tc=0 tw=0 ta=1 tf=0 ts1=1 to1=1 sort1=0 \
+    ts2=1 to2=1 sort2=0 ts3=1 to3=1 sort3=0 ts4=1 to4=1 sort4=0 \
+    ts5=1 to5=1 sort5=0 ts6=1 to6=1 sort6=0 stop=0 need=0";
 const STORE: &str = "code=0 target=1000 lolo=900 lo=990 hi=1010 hihi=1100 nearzero=100 tare=0";
 const SAMPLE: &str = "sensor=0 emergency=0 safety=255 foreign=0 gross=0";
 
 /// The setup of these tests with the given fields changed: a box is detected
-/// on the sensor's rise and weighed on the next tick.
+/// on the sensor's rise and weighed on the next tick. Without a sorter's number
+/// `ts=`, `to=` and `sort=` are those of sorter 1.
 pub fn setup(changes: &str) -> String {
-    changed(SETUP, changes)
+    let numbered = |change: &str| match change.split_once('=') {
+        Some((key @ ("ts" | "to" | "sort"), value)) => format!("{key}1={value} "),
+        _ => format!("{change} "),
+    };
+    changed(SETUP, &changes.split_whitespace().map(numbered).collect::<String>())
 }
 
 pub fn store(changes: &str) -> String {

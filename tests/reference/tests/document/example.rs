@@ -1,9 +1,11 @@
-//! The worked example, byte for byte, sdp as T-06 prints it.
+//! The worked example, byte for byte, its setup line as T-01 has it and sdp as T-06 prints it.
 
 use reference::stream::serve;
 
 const INPUT: &str = "\
-mode=1 edge=1 tc=0 tw=0 ta=2 tf=0 ts=1 to=1 sort=0 stop=0 need=0
+mode=1 edge=1 tc=0 tw=0 ta=2 tf=0 ts1=1 to1=1 sort1=0 \
+ts2=1 to2=1 sort2=0 ts3=1 to3=1 sort3=0 ts4=1 to4=1 sort4=0 \
+ts5=1 to5=1 sort5=0 ts6=1 to6=1 sort6=0 stop=0 need=0
 code=0 target=1000 lolo=900 lo=990 hi=1010 hihi=1100 nearzero=100 tare=0
 COPR
 sensor=1 emergency=0 safety=255 foreign=0 gross=500

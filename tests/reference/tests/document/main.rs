@@ -1,9 +1,11 @@
 //! Documents 01 and 02 as tests: the worked example, the bench marks, the readings of
-//! its places with two senses, the mistakes to shut out, and demand 3's book.
+//! its places with two senses, the mistakes to shut out, demand 3's book, and what the
+//! generated streams meet of 02.
 
 mod bench;
 mod bench_marks;
 mod book;
+mod coverage;
 mod example;
 mod mistakes;
 mod operation;

@@ -36,11 +36,21 @@ fn refusals_come_in_the_tables_order() {
 
 #[test]
 fn ranges_of_setup() {
-    let zero = ["tc", "tw", "tf"].map(|key| (key, 0, 9_999));
-    let one = ["ta", "ts", "to"].map(|key| (key, 1, 9_999));
-    let masks =
-        [("sort", 0, 254), ("stop", 0, 255), ("need", 0, 255), ("mode", 1, 2), ("edge", 1, 2)];
-    for (key, least, most) in zero.into_iter().chain(one).chain(masks) {
+    let line = [
+        ("tc", 0, 9_999),
+        ("tw", 0, 9_999),
+        ("tf", 0, 9_999),
+        ("ta", 1, 9_999),
+        ("stop", 0, 255),
+        ("need", 0, 255),
+        ("mode", 1, 2),
+        ("edge", 1, 2),
+    ];
+    let sorter = [("ts", 1, 9_999), ("to", 1, 9_999), ("sort", 0, 254)];
+    let line = line.map(|(key, least, most)| (key.to_string(), least, most));
+    let sorters =
+        (1..=6).flat_map(|k| sorter.map(|(key, least, most)| (format!("{key}{k}"), least, most)));
+    for (key, least, most) in line.into_iter().chain(sorters) {
         let mut bench = Bench::stopped("");
         bench.check(&setup(&format!("edge=2 {key}={least}")), "status=0");
         bench.check(&setup(&format!("edge=2 {key}={most}")), "status=0");

@@ -10,15 +10,15 @@ fn output(input: &[u8]) -> String {
 }
 
 #[test]
-fn a_line_has_120_bytes_at_most_and_its_lf_is_no_part_of_it() {
+fn a_line_has_300_bytes_at_most_and_its_lf_is_no_part_of_it() {
     let digits = |count: usize| format!("report={}", "7".repeat(count));
-    assert_eq!(digits(113).len(), 120);
+    assert_eq!(digits(293).len(), 300);
     for end in ["", "\n"] {
-        assert_eq!(output((digits(113) + end).as_bytes()), "refused=2 input=0\n");
-        assert_eq!(output((digits(114) + end).as_bytes()), "refused=1 input=0\n");
+        assert_eq!(output((digits(293) + end).as_bytes()), "refused=2 input=0\n");
+        assert_eq!(output((digits(294) + end).as_bytes()), "refused=1 input=0\n");
     }
     let mut bench = Bench::fresh();
-    let long = "9".repeat(120 - sample("gross=").len());
+    let long = "9".repeat(300 - sample("gross=").len());
     bench.check(&sample(&format!("gross={long}")), "refused=2");
     bench.check(&sample(&format!("gross={long}9")), "refused=1");
 }

@@ -5,7 +5,7 @@ use reference::sheet::Sheet;
 use reference::tally::{nearest, Tally};
 use reference::verdict::Verdict;
 
-use crate::bench::{setup, store, Bench};
+use crate::bench::{sample, setup, store, Bench};
 
 /// T-03: the sum at least 0 or negative, the remainder below half, exactly half, above half.
 fn conditions(sum: i64, number: i64) -> [bool; 6] {
@@ -293,4 +293,196 @@ fn why_the_status_refuses() {
     bench.check(&store(""), "status=2");
     bench.check("COPR", "refused=5 input=2");
     bench.check("CSTD", "status=0");
+}
+
+/// The changes that set every sorter's field of this name.
+fn each_sorter(key: &str, value: i64) -> String {
+    (1..=6).map(|k| format!(" {key}{k}={value}")).collect()
+}
+
+/// The reply's sorter field with these sorters on.
+fn on(sorters: &[u32]) -> String {
+    format!("sorter={}", sorters.iter().map(|k| 1 << (k - 1)).sum::<i64>())
+}
+
+/// Two different sorters, in every way.
+fn pairs() -> impl Iterator<Item = (u32, u32)> {
+    let all = (1..=6).flat_map(|one| (1..=6).map(move |other| (one, other)));
+    all.filter(|(one, other)| one != other)
+}
+
+/// T-01: a verdict enters the queue of every sorter whose mask has its bit, and of no other.
+#[test]
+fn a_verdict_enters_every_sorter_that_wants_it() {
+    let masks = "sort1=32 sort2=96 sort3=64 sort4=36 sort5=0 sort6=254";
+    let mut bench = Bench::running(&format!("ta=3 {masks}"));
+    let boxes: [(&str, i64, i64, &[u32]); 6] = [
+        ("", 800, 1, &[6]),
+        ("", 950, 2, &[2, 3, 6]),
+        ("", 1000, 3, &[1, 2, 4, 6]),
+        ("", 1050, 4, &[6]),
+        ("", 1200, 5, &[6]),
+        ("foreign=1", 1000, 6, &[4, 6]),
+    ];
+    for (signal, gross, outcome, sorters) in boxes {
+        bench.tick(&format!("sensor=1 {signal}"), "detected=1");
+        bench.ticks(2, &format!("gross={gross}"), "outcome=0 sorter=0");
+        bench.tick(&format!("gross={gross}"), &format!("outcome={outcome} sorter=0 busy=1"));
+        bench.tick("", &format!("{} busy=1", on(sorters)));
+        bench.tick("", "sorter=0 busy=0");
+    }
+    bench.tick("sensor=1", "detected=1");
+    bench.tick("", "outcome=0");
+    bench.tick("sensor=1", "outcome=7 busy=1");
+    bench.tick("", &on(&[6]));
+    bench.tick("", "sorter=0 busy=0");
+}
+
+/// T-01: one of the wanted queues holds 8: crash, which enters none of them, also not those with
+/// room. The same full queue does not matter to a verdict that its sorter does not want.
+#[test]
+fn one_full_queue_of_those_wanted_makes_crash() {
+    for (full, room) in pairs() {
+        let set = format!("ts{full}=999 sort{full}=36 ts{room}=1 sort{room}=100");
+        let mut bench = Bench::running(&set);
+        for _ in 0..8 {
+            bench.weigh(1000, "outcome=3");
+            bench.tick("", &on(&[room]));
+        }
+        bench.weigh(1000, "outcome=8 net=0 tallied=1");
+        bench.tick("", "sorter=0");
+        bench.foreign_pulse();
+        bench.weigh(1000, "outcome=8 net=0");
+        bench.tick("", "sorter=0");
+        bench.weigh(950, "outcome=2 net=950");
+        bench.tick("", &on(&[room]));
+        bench.weigh(800, "outcome=1");
+        bench.tick("", "sorter=0");
+        bench.check("report=0", "total=12 ok=8 lo=1 lolo=1 foreign=0 crash=2");
+    }
+}
+
+/// T-01: two-on enters those that hold fewer than 8, beside one that does not.
+#[test]
+fn two_on_enters_the_queues_with_room() {
+    for (full, room) in pairs() {
+        let set = format!("ta=3 ts{full}=60 sort{full}=34 ts{room}=2 sort{room}=2");
+        let mut bench = Bench::running(&set);
+        for _ in 0..8 {
+            bench.tick("sensor=1", "detected=1");
+            bench.ticks(2, "gross=1000", "outcome=0");
+            bench.tick("gross=1000", "outcome=3");
+        }
+        bench.tick("sensor=1", "detected=1");
+        bench.tick("sensor=0", "detected=0");
+        bench.tick("sensor=1", "detected=1 outcome=7 net=0 tallied=1");
+        bench.tick("", "sorter=0");
+        bench.tick("", &on(&[room]));
+        // The full queue's last wait had fallen three times on the tick of two-on; a ninth would end later.
+        bench.ticks(54, "", "busy=1");
+        bench.tick("", &format!("{} busy=1", on(&[full])));
+        bench.tick("", "sorter=0 busy=0");
+    }
+}
+
+/// T-01: each sorter has its own ts and to; bit k-1 of the reply's field is sorter k, and the field is 0
+/// unless running.
+#[test]
+fn each_sorter_has_its_own_times_and_bit() {
+    let (waits, times) = ([6, 1, 4, 2, 5, 3], [9, 2, 30, 7, 1, 5]);
+    let fields = (0..6).map(|k| format!(" ts{0}={1} to{0}={2}", k + 1, waits[k], times[k]));
+    let mut bench = Bench::running(&(each_sorter("sort", 32) + &fields.collect::<String>()));
+    bench.weigh(1000, "outcome=3 sorter=0 busy=1");
+    for tick in 1..=40 {
+        let is_on = |k: &u32| {
+            let k = *k as usize - 1;
+            waits[k] <= tick && tick < waits[k] + times[k]
+        };
+        let sorters: Vec<u32> = (1..=6).filter(is_on).collect();
+        bench.tick("", &format!("{} busy={}", on(&sorters), i64::from(tick < 34)));
+    }
+    let mut bench = Bench::running(&(each_sorter("sort", 32) + &each_sorter("to", 3)));
+    bench.weigh(1000, "outcome=3 sorter=0");
+    bench.tick("", "sorter=63");
+    bench.check("CSTD", "status=2 sorter=0 busy=1");
+    bench.ticks(9, "", "status=2 sorter=0 busy=1");
+    bench.check("COPR", "status=1 sorter=63");
+    bench.ticks(2, "", "sorter=63 busy=1");
+    bench.tick("", "sorter=0 busy=0");
+}
+
+/// T-01: a queue or an on-time of any of the six is busy.
+#[test]
+fn any_sorter_makes_the_line_busy() {
+    for k in 1..=6 {
+        for ticks in 0..4 {
+            let mut bench = Bench::running(&format!("ts{k}=2 to{k}=2 sort{k}=32"));
+            bench.weigh(1000, "outcome=3 sorter=0 busy=1");
+            bench.ticks(ticks, "", "busy=1");
+            bench.check("CNOP", &if ticks < 2 { "sorter=0".into() } else { on(&[k]) });
+            bench.check("CSTD", "status=2 busy=1 error=0 sorter=0");
+        }
+        let mut bench = Bench::running(&format!("ts{k}=2 to{k}=2 sort{k}=32"));
+        bench.weigh(1000, "outcome=3");
+        bench.ticks(3, "", "busy=1");
+        bench.tick("", "busy=0 sorter=0");
+        bench.check("CSTD", "status=0");
+    }
+}
+
+/// T-01: stop and emergency empty all six queues and put all six sorters off.
+#[test]
+fn status_0_and_3_empty_all_six_sorters() {
+    for end in ["CSTD", "CSTP", sample("emergency=1").as_str()] {
+        let sorting = each_sorter("sort", 32) + &each_sorter("ts", 4) + &each_sorter("to", 99);
+        let mut bench = Bench::running(&sorting);
+        bench.weigh(1000, "outcome=3 busy=1");
+        bench.ticks(3, "", "busy=1 sorter=0");
+        bench.weigh(1000, "outcome=3 busy=1 sorter=63");
+        if end == "CSTD" {
+            bench.pause();
+        }
+        bench.check(end, "busy=0 sorter=0 outcome=0");
+        bench.tick("", "status=0 busy=0");
+        bench.check("COPR", "status=1 busy=0 sorter=0");
+        bench.ticks(9, "", "busy=0 sorter=0");
+    }
+}
+
+/// T-01: "Fresh, each has 100, 50 and 0."
+#[test]
+fn fresh_sorters() {
+    let sorters = Bench::fresh().program.line.setup.sorters;
+    assert_eq!(sorters.map(|set| (set.ts, set.to, set.sort)), [(100, 50, 0); 6]);
+}
+
+/// T-01: the setup line has the fields of six sorters, in their order; any line may be 300 bytes.
+#[test]
+fn the_setup_line_of_six_sorters() {
+    let line = setup("");
+    let mut bench = Bench::fresh();
+    bench.check(&line, "status=0");
+    let old = "mode=1 edge=1 tc=0 tw=0 ta=1 tf=0 ts=1 to=1 sort=0 stop=0 need=0";
+    bench.check(old, "refused=1 input=0");
+    let sorter = |k: u32| format!(" ts{k}=1 to{k}=1 sort{k}=0");
+    for k in 1..=6 {
+        bench.check(&line.replace(&sorter(k), ""), "refused=1");
+        bench.check(&line.replace(&sorter(k), &sorter(k).repeat(2)), "refused=1");
+        bench.check(&line.replace(&sorter(k), " ts=1 to=1 sort=0"), "refused=1");
+        bench.check(&line.replace(&format!("ts{k}="), "ts="), "refused=1");
+        bench.check(
+            &line.replace(&format!("ts{k}=1 to{k}=1"), &format!("to{k}=1 ts{k}=1")),
+            "refused=1",
+        );
+        for mask in [1, 3, 255] {
+            bench.check(&setup(&format!("sort{k}={mask}")), "refused=2 input=0");
+        }
+    }
+    bench.check(&line.replace(&sorter(6), &(sorter(6) + &sorter(7))), "refused=1");
+    for line in [line, store(""), sample(""), "report=0".into()] {
+        let long = line[..line.len() - 1].to_owned() + &"9".repeat(301 - line.len());
+        assert_eq!(long.len(), 300);
+        bench.check(&long, "refused=2");
+        bench.check(&(long + "9"), "refused=1");
+    }
 }

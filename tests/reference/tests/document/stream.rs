@@ -30,7 +30,7 @@ fn pieces_do_not_matter() {
         output
     };
     let whole = answers(usize::MAX);
-    for size in [1, 2, 7, 119, 120, 121, 122, 1000] {
+    for size in [1, 2, 7, 299, 300, 301, 302, 1000] {
         assert!(answers(size) == whole, "pieces of {size}");
     }
     let mut program = Program::fresh();

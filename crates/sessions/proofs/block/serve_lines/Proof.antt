@@ -113,7 +113,7 @@ nearer m i k j h e g = omega (arith, h, e, g)
 
 -- the bytes of a line: in a session the next fields lie behind them
 abbrev size-line : ℕ
-size-line = 344
+size-line = 624
 
 -- what a turn begins with
 pub record Turn (inp : List ℕ) (n n₁ n₃ : ℕ) (from : Memories) (bytes : List ℕ) : Type 0 where
@@ -230,15 +230,15 @@ module _ {M : Type 1} (𝓤 : URA M) (H : Heap 𝓤) (A : Atoms 𝓤) (W : Given
         qed W ((‵ (flft κ q) ⊛ (‵ (flft κ₁ q₁) ⊛ (‵ (flft κ₂ q₂) ⊛ (‵ (flft κ₃ q₃) ⊛ ‵ ftrue)))) ∷ ‵ (owns (S.the-row ∷ MutSlice (named 0) κ R ∷ MutSlice (named 1) κ₁ i64 ∷ ShrSlice (named 2) κ₂ u8 ∷ MutSlice (named 3) κ₃ u8 ∷ []) a at) ∷ []) ∵
         enter ! (𝓣 .C) (𝓣 .Λ) code.function (sessionVal lv session ∷ s ∷ s₁ ∷ s₂ ∷ s₃ ∷ []) _ $
         alloc1 ! (λ l₀. alloc1 ! (λ l₁. alloc1 ! (λ l₂. alloc1 ! (λ l₃. alloc1 ! (λ l₄. alloc1 ! (λ l₅. alloc1 ! (λ l₆. alloc1 ! (λ l₇. alloc1 ! (λ l₈. alloc1 ! (λ l₉. alloc1 ! (λ l₁₀. alloc1 ! (λ l₁₁. alloc1 ! (λ l₁₂. alloc1 ! (λ l₁₃. alloc1 ! (λ l₁₄. alloc1 ! (λ l₁₅. alloc1 ! (λ l₁₆. alloc1 ! (λ l₁₇. alloc1 ! (λ l₁₈. alloc1 ! (λ l₁₉. alloc1 ! (λ l₂₀. alloc0 ! $ params1 ! $
-        pass1 ! (init ! 38 refl (session-typed 𝓤 H A W session lv session-whole)) $ pass1 ! (init ! 36 refl (tt, (tt, (record { fits = room .0 }, tt)))) $ pass1 ! (init ! 34 refl (tt, (tt, (record { fits = room₁ .0 }, tt)))) $
+        pass1 ! (init ! 38 {τ = S′.mir} {v = sessionVal lv session} refl (session-typed 𝓤 H A W session lv session-whole)) $ pass1 ! (init ! 36 refl (tt, (tt, (record { fits = room .0 }, tt)))) $ pass1 ! (init ! 34 refl (tt, (tt, (record { fits = room₁ .0 }, tt)))) $
         pass1 ! (init ! 32 refl (tt, (tt, (record { fits = room₂ .0 }, tt)))) $ pass1 ! (init ! 30 refl (tt, (tt, (record { fits = room₃ .0 }, tt)))) $ pass0 ! $
         move ! (43 ∷ []) $ fsplit ! $ drop ! $ fsplit ! $ move ! (1 ∷ []) $ fsplit ! $ move ! (1 ∷ []) $ fsplit ! $ move ! (1 ∷ []) $ fsplit ! $ move ! (1 ∷ []) $ drop ! $
         move ! (46 ∷ []) $ split ! $ move ! (1 ∷ []) $ split ! $ move ! (1 ∷ []) $ split ! $ move ! (1 ∷ []) $ split ! $ move ! (1 ∷ []) $ drop ! $ move ! (7 ∷ 3 ∷ 6 ∷ 2 ∷ 5 ∷ 1 ∷ 4 ∷ 0 ∷ []) $
         -- [the records; κ's token; the tallies; κ₁'s; the input; κ₂'s; the output; κ₃'s; _20; …; _0; …]: local k stands at 8 + 2 · (20 − k)
-        assigns ! (of-opd ! (load ! (from ! (stop !)) (look ! 46 refl))) (from ! (stop !)) (init ! 36 refl (session-typed 𝓤 H A W session lv session-whole)) $
+        assigns ! (of-opd ! (load ! (from ! (stop !)) (look ! 46 {τ = S′.mir} {v = sessionVal lv session} refl))) (from ! (stop !)) (init ! 36 {τ = S′.mir} {v = sessionVal lv session} refl (session-typed 𝓤 H A W session lv session-whole)) $
         first ! $ blocks ! $ loops ! 𝓣 Nearer Nearer-wf (Held l₀ l₁ l₂ l₃ l₄ l₅ l₆ l₇ l₈ l₉ l₁₀ l₁₁ l₁₂ l₁₃ l₁₄ l₁₅ l₁₆ l₁₇ l₁₈ l₁₉ l₂₀) (λ t.
         assigns ! (of-opd ! (load ! (from ! (fld ! refl (stop !))) (look-in ! 40 (sub ! 1 refl (whole !))))) (from ! (stop !)) (init ! 32 refl (tt, record { fits = room₂ .0 })) $
-        assigns ! (bin ! (load ! (from ! (fld ! {τ = (tyInt w64)} {d = size-line + 8} refl (stop !))) (look-in ! 36 (sub ! 2 {τ = (tyInt w64)} {d = size-line + 8} refl (whole !)))) (load ! (from ! (stop !)) (look ! 32 refl)) tt) (from ! (stop !)) (init ! 30 refl (tt, tt)) $
+        assigns ! (bin ! (load ! (from ! (fld ! {τ = (tyInt w64)} {d = size-line + 8} refl (stop !))) (look-in ! 36 (sub ! 2 {τ = (tyInt w64)} {d = size-line + 8} refl (whole ! {τ = S′.mir} {v = sessionVal (t .lv) (t .at)})))) (load ! (from ! (stop !)) (look ! 32 refl)) tt) (from ! (stop !)) (init ! 30 refl (tt, tt)) $
         elim (by-cases (ltb (t .at .end) (length inp))) [
           | inl y ↦
               -- a line
@@ -247,8 +247,8 @@ module _ {M : Type 1} (𝓤 : URA M) (H : Heap 𝓤) (A : Atoms 𝓤) (W : Given
               assigns ! (agg ! (and-then ! (load ! (from ! (stop !)) (look ! 28 refl)) (and-then ! (load ! (from ! (fld ! refl (stop !))) (look-in ! 44 (sub ! 1 refl (whole !)))) (no-more !)))) (from ! (stop !)) (init ! 26 refl (tt, (tt, (record { fits = room .0 }, tt)))) $
               assigns ! (addr ! (from ! (fld ! refl (hop ! (look-in ! 42 (sub ! 0 refl (whole !))) (stop !))))) (from ! (stop !)) (init ! 24 refl (tt, tt)) $
               assigns ! (agg ! (and-then ! (load ! (from ! (stop !)) (look ! 24 refl)) (and-then ! (load ! (from ! (fld ! refl (stop !))) (look-in ! 42 (sub ! 1 refl (whole !)))) (no-more !)))) (from ! (stop !)) (init ! 22 refl (tt, (tt, (record { fits = room₁ .0 }, tt)))) $
-              assigns ! (bin ! (load ! (from ! (fld ! refl (stop !))) (look-in ! 40 (sub ! 0 refl (whole !)))) (load ! (from ! (fld ! {τ = (tyInt w64)} {d = size-line} refl (stop !))) (look-in ! 36 (sub ! 1 {τ = (tyInt w64)} {d = size-line} refl (whole !)))) tt) (from ! (stop !)) (init ! 20 refl (tt, tt)) $
-              assigns ! (bin ! (load ! (from ! (fld ! {τ = (tyInt w64)} {d = size-line + 8} refl (stop !))) (look-in ! 36 (sub ! 2 {τ = (tyInt w64)} {d = size-line + 8} refl (whole !)))) (load ! (from ! (fld ! {τ = (tyInt w64)} {d = size-line} refl (stop !))) (look-in ! 36 (sub ! 1 {τ = (tyInt w64)} {d = size-line} refl (whole !)))) (session-order inp (length us) (t .at) (t .ends))) (from ! (stop !)) (store ! 32 refl (tt, record { fits = less-fits (t .at .start) (t .at .end) (t .whole .end-fits) })) $
+              assigns ! (bin ! (load ! (from ! (fld ! refl (stop !))) (look-in ! 40 (sub ! 0 refl (whole !)))) (load ! (from ! (fld ! {τ = (tyInt w64)} {d = size-line} refl (stop !))) (look-in ! 36 (sub ! 1 {τ = (tyInt w64)} {d = size-line} refl (whole ! {τ = S′.mir} {v = sessionVal (t .lv) (t .at)})))) tt) (from ! (stop !)) (init ! 20 refl (tt, tt)) $
+              assigns ! (bin ! (load ! (from ! (fld ! {τ = (tyInt w64)} {d = size-line + 8} refl (stop !))) (look-in ! 36 (sub ! 2 {τ = (tyInt w64)} {d = size-line + 8} refl (whole ! {τ = S′.mir} {v = sessionVal (t .lv) (t .at)})))) (load ! (from ! (fld ! {τ = (tyInt w64)} {d = size-line} refl (stop !))) (look-in ! 36 (sub ! 1 {τ = (tyInt w64)} {d = size-line} refl (whole ! {τ = S′.mir} {v = sessionVal (t .lv) (t .at)})))) (session-order inp (length us) (t .at) (t .ends))) (from ! (stop !)) (store ! 32 refl (tt, record { fits = less-fits (t .at .start) (t .at .end) (t .whole .end-fits) })) $
               assigns ! (addr ! (from ! (hop ! (look ! 20 refl) (stop !)))) (from ! (stop !)) (init ! 18 refl (tt, tt)) $
               assigns ! (agg ! (and-then ! (load ! (from ! (stop !)) (look ! 18 refl)) (and-then ! (load ! (from ! (stop !)) (look ! 32 refl)) (no-more !)))) (from ! (stop !)) (init ! 16 refl (tt, (tt, (record { fits = less-fits (t .at .start) (t .at .end) (t .whole .end-fits) }, tt)))) $
               assigns ! (addr ! (from ! (fld ! refl (hop ! (look-in ! 38 (sub ! 0 refl (whole !))) (stop !))))) (from ! (stop !)) (init ! 14 refl (tt, tt)) $
@@ -261,7 +261,7 @@ module _ {M : Type 1} (𝓤 : URA M) (H : Heap 𝓤) (A : Atoms 𝓤) (W : Given
               -- [the line; κ₂'s token; the input; the output lent; ν₃'s token; what is kept; the tallies lent; ν₁'s; kept; the records lent; ν's; kept; _20; …]
               move ! (9 ∷ 10 ∷ 6 ∷ 7 ∷ 0 ∷ 1 ∷ 3 ∷ 4 ∷ []) $ use8 W (raw (Serve 𝓤 H A mem run .pre (to-serve 𝓤 H A mem run W (ν ∷ []) (ν₁ ∷ []) κ₂ (ν₃ ∷ []) fullShare fullShare q₂ fullShare (t .at .line) (t .lv) b o (length ys) δ (t .ys) b₁ o₁ (length ts) δ₁ (t .ts) b₂ (t .at .start + o₂) (t .at .end - t .at .start) δ₂ (take (t .at .end - t .at .start) (drop-list (t .at .start) inp)) b₃ o₃ (length us) δ₃ (t .us) (t .at .at) (t .whole .line-is) (t .whole .at-fits)))) (asks-serve 𝓤 H A mem run W (ν ∷ []) (ν₁ ∷ []) κ₂ (ν₃ ∷ []) fullShare fullShare q₂ fullShare (t .at .line) (t .lv) b o (length ys) δ (t .ys) b₁ o₁ (length ts) δ₁ (t .ts) b₂ (t .at .start + o₂) (t .at .end - t .at .start) δ₂ (take (t .at .end - t .at .start) (drop-list (t .at .start) inp)) b₃ o₃ (length us) δ₃ (t .us) (t .at .at) (t .whole .line-is) (t .whole .at-fits)) $
               -- [what `serve` asks; the input; kept of the output, of the tallies, of the records; _20; …]
-              calls-at ! fm (Serve 𝓤 H A mem run) known-serve (to-serve 𝓤 H A mem run W (ν ∷ []) (ν₁ ∷ []) κ₂ (ν₃ ∷ []) fullShare fullShare q₂ fullShare (t .at .line) (t .lv) b o (length ys) δ (t .ys) b₁ o₁ (length ts) δ₁ (t .ts) b₂ (t .at .start + o₂) (t .at .end - t .at .start) δ₂ (take (t .at .end - t .at .start) (drop-list (t .at .start) inp)) b₃ o₃ (length us) δ₃ (t .us) (t .at .at) (t .whole .line-is) (t .whole .at-fits)) (and-then ! (load ! (from ! (fld ! {τ = L′.mir} {d = 0} refl (stop !))) (look-in ! 33 (sub ! 0 {τ = L′.mir} {d = 0} refl (whole !)))) (and-then ! (load ! (from ! (stop !)) (look ! 23 refl)) (and-then ! (load ! (from ! (stop !)) (look ! 19 refl)) (and-then ! (load ! (from ! (stop !)) (look ! 13 refl)) (and-then ! (load ! (from ! (stop !)) (look ! 9 refl)) (and-then ! (load ! (from ! (fld ! {τ = (tyInt w64)} {d = size-line + 16} refl (stop !))) (look-in ! 33 (sub ! 3 {τ = (tyInt w64)} {d = size-line + 16} refl (whole !)))) (no-more !))))))) (λ w.
+              calls-at ! fm (Serve 𝓤 H A mem run) known-serve (to-serve 𝓤 H A mem run W (ν ∷ []) (ν₁ ∷ []) κ₂ (ν₃ ∷ []) fullShare fullShare q₂ fullShare (t .at .line) (t .lv) b o (length ys) δ (t .ys) b₁ o₁ (length ts) δ₁ (t .ts) b₂ (t .at .start + o₂) (t .at .end - t .at .start) δ₂ (take (t .at .end - t .at .start) (drop-list (t .at .start) inp)) b₃ o₃ (length us) δ₃ (t .us) (t .at .at) (t .whole .line-is) (t .whole .at-fits)) (and-then ! (load ! (from ! (fld ! {τ = L′.mir} {d = 0} refl (stop !))) (look-in ! 33 (sub ! 0 {τ = L′.mir} {d = 0} refl (whole ! {τ = S′.mir} {v = sessionVal (t .lv) (t .at)})))) (and-then ! (load ! (from ! (stop !)) (look ! 23 refl)) (and-then ! (load ! (from ! (stop !)) (look ! 19 refl)) (and-then ! (load ! (from ! (stop !)) (look ! 13 refl)) (and-then ! (load ! (from ! (stop !)) (look ! 9 refl)) (and-then ! (load ! (from ! (fld ! {τ = (tyInt w64)} {d = size-line + 16} refl (stop !))) (look-in ! 33 (sub ! 3 {τ = (tyInt w64)} {d = size-line + 16} refl (whole ! {τ = S′.mir} {v = sessionVal (t .lv) (t .at)})))) (no-more !))))))) (λ w.
               use1 W (later (some (λ (made : Served). some (λ (zs : List Settings). some (λ (vs : List ℤ). some (λ (os : List ℕ). given (Is O.the-row made (w ∷ [])) (given (Answers (t .at .line) (t .ys) (t .ts) (take (t .at .end - t .at .start) (drop-list (t .at .start) inp)) (t .us) (t .at .at) made zs vs os) (given (length zs ≡ length (t .ys)) (given (length vs ≡ length (t .ts)) (given (length os ≡ length (t .us))
               (‵ (finally R δ zs) ⊛ (‵ (flft (ν ∷ []) fullShare) ⊛ (‵ (finally i64 δ₁ vs) ⊛ (‵ (flft (ν₁ ∷ []) fullShare) ⊛ (‵ (flft κ₂ q₂) ⊛ (‵ (finally u8 δ₃ os) ⊛ ‵ (flft (ν₃ ∷ []) fullShare)))))))))))))))))
               (ended-serve 𝓤 H A mem run W (ν ∷ []) (ν₁ ∷ []) κ₂ (ν₃ ∷ []) fullShare fullShare q₂ fullShare (t .at .line) (t .lv) b o (length ys) δ (t .ys) b₁ o₁ (length ts) δ₁ (t .ts) b₂ (t .at .start + o₂) (t .at .end - t .at .start) δ₂ (take (t .at .end - t .at .start) (drop-list (t .at .start) inp)) b₃ o₃ (length us) δ₃ (t .us) (t .at .at) (t .whole .line-is) (t .whole .at-fits) w) $ await ! tt $ pick ! (λ made. pick ! (λ zs. pick ! (λ vs. pick ! (λ os. learn ! (λ made-is. learn ! (λ answers. learn ! (λ same. learn ! (λ same₁. learn ! (λ same₃.
@@ -271,27 +271,27 @@ module _ {M : Type 1} (𝓤 : URA M) (H : Heap 𝓤) (A : Atoms 𝓤) (W : Given
               move ! (4 ∷ 3 ∷ 8 ∷ []) $ back-mut ! tt i64 (named 1) (named 1) κ₁ q₁ γ₁ b₁ o₁ (length ts) (t .ts) ν₁ δ₁ vs room₁ (t .as-many₁) same₁ $
               move ! (6 ∷ 5 ∷ 8 ∷ []) $ back-mut ! tt R (named 0) (named 0) κ q γ b o (length ys) (t .ys) ν δ zs room (t .as-many) same $ move ! (0 ∷ 1 ∷ 2 ∷ 3 ∷ 7 ∷ 6 ∷ 4 ∷ 5 ∷ []) $
               -- [the records; κ's token; the tallies; κ₁'s; the input; κ₂'s; the output; κ₃'s; _20; …]
-              land ! (from ! (stop !)) (init ! 34 refl (served-typed 𝓤 H A W made w made-is)) $
+              land ! (from ! (stop !)) (init ! 34 {τ = O′.mir} {v = w} refl (served-typed 𝓤 H A W made w made-is)) $
               assigns ! (addr ! (from ! (fld ! refl (hop ! (look-in ! 38 (sub ! 0 refl (whole !))) (stop !))))) (from ! (stop !)) (init ! 10 refl (tt, tt)) $
               assigns ! (agg ! (and-then ! (load ! (from ! (stop !)) (look ! 10 refl)) (and-then ! (load ! (from ! (fld ! refl (stop !))) (look-in ! 38 (sub ! 1 refl (whole !)))) (no-more !)))) (from ! (stop !)) (init ! 8 refl (tt, (tt, (record { fits = room₃ .0 }, tt)))) $
               move ! (6 ∷ 7 ∷ []) $ lend-shr ! tt u8 (named 3) (named 1) κ₃ q₃ γ₃ b₃ o₃ (length us) os (λ ν δ. move ! (7 ∷ []) $
               use1 W (‵ Input ⊛ ‵ Input) (shr-slice-copy 𝓤 H A W (named 2) κ₂ u8 .twice (ref b₂ o₂ γ₂ inp) (s₂ ∷ [])) $ split ! $ move ! (0 ∷ 9 ∷ 2 ∷ 3 ∷ []) $
               use4 W (raw (Next 𝓤 H A mem run .pre (to-next 𝓤 H A mem run W κ₂ (ν ∷ []) q₂ fullShare made w b₂ o₂ (length inp) γ₂ inp (t .at .end) b₃ o₃ (length us) δ os made-is (t .whole .end-fits)))) (asks-next 𝓤 H A mem run W κ₂ (ν ∷ []) q₂ fullShare made w b₂ o₂ (length inp) γ₂ inp (t .at .end) b₃ o₃ (length us) δ os made-is (t .whole .end-fits)) $
               -- [what `next` asks; the input; kept of the output; the records; κ's token; the tallies; κ₁'s; _20; …]
-              calls-at-last ! fm (Next 𝓤 H A mem run) known-next (to-next 𝓤 H A mem run W κ₂ (ν ∷ []) q₂ fullShare made w b₂ o₂ (length inp) γ₂ inp (t .at .end) b₃ o₃ (length us) δ os made-is (t .whole .end-fits)) (and-then ! (load ! (from ! (stop !)) (look ! 33 refl)) (and-then ! (load ! (from ! (stop !)) (look ! 39 refl)) (and-then ! (load ! (from ! (fld ! {τ = (tyInt w64)} {d = size-line + 8} refl (stop !))) (look-in ! 35 (sub ! 2 {τ = (tyInt w64)} {d = size-line + 8} refl (whole !)))) (and-then ! (load ! (from ! (stop !)) (look ! 7 refl)) (no-more !))))) (λ w₁.
+              calls-at-last ! fm (Next 𝓤 H A mem run) known-next (to-next 𝓤 H A mem run W κ₂ (ν ∷ []) q₂ fullShare made w b₂ o₂ (length inp) γ₂ inp (t .at .end) b₃ o₃ (length us) δ os made-is (t .whole .end-fits)) (and-then ! (load ! (from ! (stop !)) (look ! 33 {τ = O′.mir} {v = w} refl)) (and-then ! (load ! (from ! (stop !)) (look ! 39 refl)) (and-then ! (load ! (from ! (fld ! {τ = (tyInt w64)} {d = size-line + 8} refl (stop !))) (look-in ! 35 (sub ! 2 {τ = (tyInt w64)} {d = size-line + 8} refl (whole ! {τ = S′.mir} {v = sessionVal (t .lv) (t .at)})))) (and-then ! (load ! (from ! (stop !)) (look ! 7 refl)) (no-more !))))) (λ w₁.
               use1 W (later (some (λ (r : Session). some (λ (lv′ : Val). given (w₁ ≡ sessionVal lv′ r) (given (Whole r lv′) (given (Follows (made .line) (made .at) inp (t .at .end) (length os) r)
               (‵ (flft κ₂ q₂) ⊛ ‵ (flft (ν ∷ []) fullShare)))))))) (ended-next 𝓤 H A mem run W κ₂ (ν ∷ []) q₂ fullShare made w b₂ o₂ (length inp) γ₂ inp (t .at .end) b₃ o₃ (length us) δ os made-is (t .whole .end-fits) w₁) $ await ! tt $ pick ! (λ r. pick ! (λ lv′. learn ! (λ e₁. learn ! (λ r-whole. learn ! (λ follows. split ! $
               -- [κ₂'s token; ν's; the input; kept of the output; the records; κ's; the tallies; κ₁'s; _20; …]
               move ! (1 ∷ 3 ∷ []) $ back-shr ! tt u8 (named 3) (named 1) κ₃ q₃ γ₃ b₃ o₃ (length us) os ν room₃ (same₃ ∙ t .as-many₃) $ move ! (4 ∷ 5 ∷ 6 ∷ 7 ∷ 3 ∷ 2 ∷ 0 ∷ 1 ∷ []) $
-              settles-at ! e₁ $ land-last ! (from ! (stop !)) (store ! 36 refl (session-typed 𝓤 H A W r lv′ r-whole)) $
+              settles-at ! e₁ $ land-last ! (from ! (stop !)) (store ! 36 {τ = S′.mir} {v = sessionVal lv′ r} refl (session-typed 𝓤 H A W r lv′ r-whole)) $
               forget ! 8 refl $ forget ! 10 refl $ forget ! 12 refl $ forget ! 14 refl $ forget ! 16 refl $ forget ! 18 refl $ forget ! 20 refl $ forget ! 22 refl $ forget ! 24 refl $ forget ! 26 refl $ forget ! 28 refl $ forget ! 30 refl $ forget ! 32 refl $ forget ! 34 refl $
               again ! Nearer (Held l₀ l₁ l₂ l₃ l₄ l₅ l₆ l₇ l₈ l₉ l₁₀ l₁₁ l₁₂ l₁₃ l₁₄ l₁₅ l₁₆ l₁₇ l₁₈ l₁₉ l₂₀) t (record { at = r; ys = zs; ts = vs; us = os; lv = lv′; whole = r-whole; ends = room-r os (made .line) (made .at) (t .at .end) r t same₃ follows .2; said = turned t y r zs vs os made answers (room-r os (made .line) (made .at) (t .at .end) r t same₃ follows); as-many = same ∙ t .as-many; as-many₁ = same₁ ∙ t .as-many₁; as-many₃ = same₃ ∙ t .as-many₃ })
               (nearer (length inp) (t .at .end) (r .start) (r .end) (less t y) (follows .1 (less t y)) (session-order inp (length us) r (room-r os (made .line) (made .at) (t .at .end) r t same₃ follows .2))))))))))))))))))))))))
           | inr y ↦
               -- there is no more line
               recell ! 30 (ap vbool y) refl $ leaves-loop ! (load ! (from ! (stop !)) (look ! 30 refl)) $ exec ! (𝓣 .C) (𝓣 .Λ) (locals-at 𝓤 H Mir.locals (l₀ ∷ l₁ ∷ l₂ ∷ l₃ ∷ l₄ ∷ l₅ ∷ l₆ ∷ l₇ ∷ l₈ ∷ l₉ ∷ l₁₀ ∷ l₁₁ ∷ l₁₂ ∷ l₁₃ ∷ l₁₄ ∷ l₁₅ ∷ l₁₆ ∷ l₁₇ ∷ l₁₈ ∷ l₁₉ ∷ l₂₀ ∷ [])) Mir.t-3 (atRet (locals-at 𝓤 H Mir.locals (l₀ ∷ l₁ ∷ l₂ ∷ l₃ ∷ l₄ ∷ l₅ ∷ l₆ ∷ l₇ ∷ l₈ ∷ l₉ ∷ l₁₀ ∷ l₁₁ ∷ l₁₂ ∷ l₁₃ ∷ l₁₄ ∷ l₁₅ ∷ l₁₆ ∷ l₁₇ ∷ l₁₈ ∷ l₁₉ ∷ l₂₀ ∷ [])) Post) $
-              assigns ! (of-opd ! (load ! (from ! (stop !)) (look ! 36 refl))) (from ! (stop !)) (init ! 48 refl (session-typed 𝓤 H A W (t .at) (t .lv) (t .whole))) $
-              returns ! {Kf = Post} {r = sessionVal (t .lv) (t .at)} (look ! 48 refl) $
+              assigns ! (of-opd ! (load ! (from ! (stop !)) (look ! 36 {τ = S′.mir} {v = sessionVal (t .lv) (t .at)} refl))) (from ! (stop !)) (init ! 48 {τ = S′.mir} {v = sessionVal (t .lv) (t .at)} refl (session-typed 𝓤 H A W (t .at) (t .lv) (t .whole))) $
+              returns ! {Kf = Post} {r = sessionVal (t .lv) (t .at)} (look ! 48 {τ = S′.mir} {v = sessionVal (t .lv) (t .at)} refl) $
               move ! (48 ∷ 49 ∷ 46 ∷ 47 ∷ 44 ∷ 45 ∷ 42 ∷ 43 ∷ 40 ∷ 41 ∷ 38 ∷ 39 ∷ 36 ∷ 37 ∷ 34 ∷ 35 ∷ 32 ∷ 33 ∷ 30 ∷ 31 ∷ 28 ∷ 29 ∷ 26 ∷ 27 ∷ 24 ∷ 25 ∷ 22 ∷ 23 ∷ 20 ∷ 21 ∷ 18 ∷ 19 ∷ 16 ∷ 17 ∷ 14 ∷ 15 ∷ 12 ∷ 13 ∷ 10 ∷ 11 ∷ 8 ∷ 9 ∷ []) $
               leaves ! (some-of _ ∷ some-of _ ∷ some-of _ ∷ some-of _ ∷ some-of _ ∷ some-of _ ∷ some-of _ ∷ none-of ∷ some-of _ ∷ some-of _ ∷ none-of ∷ none-of ∷ none-of ∷ none-of ∷ none-of ∷ none-of ∷ none-of ∷ none-of ∷ none-of ∷ none-of ∷ none-of ∷ []) $
               keep ! (0 ∷ 1 ∷ 2 ∷ 3 ∷ 4 ∷ 5 ∷ 6 ∷ 7 ∷ []) $ by ! (exits t (ltb-false (t .at .end) (length inp) y))

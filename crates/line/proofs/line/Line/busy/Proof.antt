@@ -6,7 +6,7 @@ use Rattle.line.proofs.line.Line.busy.Tie as tie
 
 returns : tie.Need-returns
 unfolding busy
-returns c = simp (c .sorting .ensures, c .before .in-hand .ensures)
+returns c = simp (c .any-sorting .ensures, c .before .in-hand .ensures)
 
 pub busy-spec : {M : Type 1} → statement M
 busy-spec = tie.close (tie.spec (search needs) (search needs) returns)

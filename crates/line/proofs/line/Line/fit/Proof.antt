@@ -8,10 +8,10 @@ returns : tie.Need-returns
 unfolding lineFit
 returns c =
     simp (
-      c .fit7 .ensures,
-      c .before .fit6 .ensures,
-      c .before .before .fit5 .ensures,
-      c .before .before .before .fit4 .ensures,
+      c .fit6 .ensures,
+      c .before .fit5 .ensures,
+      c .before .before .fit4 .ensures,
+      c .before .before .before .all-fit .ensures,
       c .before .before .before .before .status-fit .ensures,
       c .before .before .before .before .before .fit3 .ensures,
       c .before .before .before .before .before .before .fit2 .ensures,

@@ -6,7 +6,7 @@ use Rattle.line.proofs.line.Line.halted.Tie as tie
 
 returns : tie.Need-returns
 unfolding halted
-returns c = simp (c .with-item .ensures, c .before .with-sorter .ensures, c .before .before .with-status .ensures, c .before .before .before .off .ensures)
+returns c = simp (c .with-item .ensures, c .before .with-sorters .ensures, c .before .before .with-status .ensures, c .before .before .before .all-off .ensures)
 
 pub halted-spec : {M : Type 1} → statement M
 halted-spec =

@@ -6,7 +6,7 @@ use Rattle.line.proofs.line.Line.step4.Tie as tie
 
 returns : tie.Need-returns
 unfolding step4
-returns c = simp (c .with-sorter .ensures, c .before .ticked .ensures)
+returns c = simp (c .with-sorters .ensures, c .before .all-ticked .ensures)
 
 pub step4-spec : {M : Type 1} → statement M
 step4-spec = tie.close (tie.spec (search needs) (search needs) returns)

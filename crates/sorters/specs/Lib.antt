@@ -1,0 +1,2 @@
+pub mod Sorters
+pub mod OneAlone
