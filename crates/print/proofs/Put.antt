@@ -8,7 +8,7 @@ use lib.ListN.{length, take, drop, set, length-append, length-drop}
 use lib.Seq.{length-take-le, take-length, take-at, drop-at, drop-drop, set-split, take-set-le, paste}
 use borrow.Author.Tests.{le-leb, lt-leb}
 use Rattle.print.specs.Written.{bufferAfter, lengthWritten}
-use Rattle.print.specs.Steps.{withTextAt, Wrote}
+use Rattle.print.specs.Steps.{withTextAt, Wrote, WroteIfRoom}
 
 module _ (b : List ℕ) (at : ℕ) (s : List ℕ) (h : at + length s ≤ length b) where
   head-length : length (take at b ++ s) ≡ at + length s
@@ -94,3 +94,10 @@ wrote-front {b} {b′} {r} {m} {s} room h w = simp (le-leb room (length b) h) (o
 
 pub kept-front : (room : ℕ) (s b : List ℕ) → length b < room → (0 ≡ lengthWritten room s b) × (b ≡ bufferAfter room s b)
 kept-front room s b h = simp (lt-leb room (length b) h) (refl, refl)
+
+-- where there is room, and where there may be too little
+pub wrote-if : {b b′ : List ℕ} {at r m : ℕ} {s : List ℕ} → at + m ≤ length b → Wrote b at s m b′ r → WroteIfRoom b at s m b′ r
+wrote-if h w = record { wrote = λ _. w; full = λ g. absurd (omega (arith, h, g)) }
+
+pub kept-full : (b : List ℕ) (at : ℕ) (s : List ℕ) (room : ℕ) → length b < at + room → WroteIfRoom b at s room b at
+kept-full b at s room h = record { wrote = λ g. absurd (omega (arith, h, g)); full = λ _. (refl, refl) }

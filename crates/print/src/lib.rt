@@ -1,9 +1,12 @@
 // The lines that the program prints: document 01, "Text lines". They are written straight into a lent buffer.
 mod buffer;
 mod field;
+mod place;
 mod reply;
 mod report;
 
+pub use place::count_at;
+pub use place::text_at;
 pub use reply::reply_line;
 pub use report::sheet_lines;
 

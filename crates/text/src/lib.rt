@@ -6,6 +6,7 @@ mod meaning;
 mod quick;
 mod reader;
 
+pub use quick::has_key;
 pub use reader::read_line;
 
 // A line of text has at most so many bytes.

@@ -37,6 +37,16 @@ fn key_at(line: &[u8], at: usize, key: &[u8]) -> bool
     same
 }
 
+// The same of any key: one of no bytes stands at every place.
+pub fn has_key(line: &[u8], at: usize, key: &[u8]) -> bool
+    ensures { λ r. ⌜ r ≡ isPrefix (now (key .entry)) (drop at (now (line .entry))) ⌝ }
+{
+    if key.len() == 0 {
+        return true;
+    }
+    key_at(line, at, key)
+}
+
 // 0 or 1 stands at a place.
 fn level_at(line: &[u8], at: usize) -> bool
     ensures { λ r. ⌜ r ≡ isLevel (drop at (now (line .entry))) ⌝ }

@@ -2,6 +2,7 @@
 
 pub mod belt;
 pub mod damage;
+pub mod exits;
 pub mod limit;
 pub mod mixed;
 pub mod random;
@@ -10,6 +11,7 @@ pub mod samples;
 use std::io::{self, Write};
 
 use damage::Damaged;
+use exits::Exits;
 use limit::Limit;
 use mixed::Mixed;
 use samples::Samples;
@@ -31,6 +33,7 @@ pub fn source(kind: &str, seed: u64, lines: u64) -> Option<Box<dyn Source>> {
         "mixed" => Some(Box::new(Mixed::new(seed))),
         "damaged" => Some(Box::new(Damaged::new(seed, lines))),
         "limit" => Some(Box::new(Limit::new(seed))),
+        "exits" => Some(Box::new(Exits::new(seed))),
         _ => None,
     }
 }

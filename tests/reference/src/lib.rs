@@ -5,6 +5,7 @@
 //! are its own and always fit, so refusal 8 (memory) cannot occur in it.
 
 pub mod event;
+pub mod exits;
 pub mod foreign;
 pub mod generator;
 pub mod line;

@@ -50,7 +50,7 @@ impl Source for Damaged {
     }
 }
 
-fn damage(text: Vec<u8>, random: &mut Random) -> Vec<u8> {
+pub(super) fn damage(text: Vec<u8>, random: &mut Random) -> Vec<u8> {
     match random.between(0, 99) {
         0..=24 => damage_bytes(text, random),
         25..=36 => damage_spaces(text, random),

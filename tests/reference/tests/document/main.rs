@@ -7,6 +7,7 @@ mod bench_marks;
 mod book;
 mod coverage;
 mod example;
+mod exits;
 mod mistakes;
 mod operation;
 mod readings_line;

@@ -1,0 +1,9 @@
+// The exit eye's program: lines from standard input that give calls, and on standard output the pairs and the counts of each.
+mod input;
+mod session;
+
+use input::serve_input;
+
+fn main() {
+    serve_input();
+}
