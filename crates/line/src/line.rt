@@ -15,6 +15,7 @@ use sorters::on_bits;
 use tally::Tally;
 use undo::Undo;
 
+// What stands behind the item is copied with the seven bytes behind its tag, as a block: so the undo stands before it.
 pub struct Line {
     pub status: u64,
     pub error: u64,
@@ -23,10 +24,10 @@ pub struct Line {
     pub sensor: Sensor,
     pub last: Last,
     pub foreign: Foreign,
+    pub undo: Undo,
     pub item: Item,
     // sorter k stands at k - 1
     pub sorters: [Sorter; Setup::SORTERS],
-    pub undo: Undo,
 }
 
 impl Line {
@@ -74,9 +75,9 @@ impl Line {
                 foreign: 0,
             },
             foreign: Foreign::none(),
+            undo: Undo::nothing(),
             item: Item::None,
             sorters: all_off(),
-            undo: Undo::nothing(),
         }
     }
 
@@ -177,9 +178,9 @@ impl Line {
             sensor: sensor,
             last: last,
             foreign: foreign,
+            undo: undo,
             item: item,
             sorters: sorters,
-            undo: undo,
         }
     }
 

@@ -15,7 +15,7 @@ use Rattle.sessions.proofs.block.Session as S
 use Rattle.sessions.proofs.block.Session.Laws as S′
 
 abbrev pub sessionVal : Val → Session → Val
-sessionVal lv x = vstruct (vcons lv (vcons (vint w64 (x .start)) (vcons (vint w64 (x .end)) (vcons (vint w64 (x .at)) vnil))))
+sessionVal lv x = vstruct (vcons (vint w64 (x .start)) (vcons (vint w64 (x .end)) (vcons (vint w64 (x .at)) (vcons lv vnil))))
 
 pub record Whole (x : Session) (lv : Val) : Type 0 where
   pub line-is : Is L.the-row (x .line) (lv ∷ [])
@@ -25,16 +25,16 @@ pub record Whole (x : Session) (lv : Val) : Type 0 where
 
 pub session-is : (x : Session) (lv : Val) → Whole x lv → Is S.the-row x (sessionVal lv x ∷ [])
 session-is x lv g = (
-  (lv ∷ [], (vint w64 (x .start) ∷ [], (vint w64 (x .end) ∷ [], (vint w64 (x .at) ∷ [], tt)))),
-  (refl, (g .line-is, ((refl, g .start-fits), ((refl, g .end-fits), ((refl, g .at-fits), tt))))),
+  (vint w64 (x .start) ∷ [], (vint w64 (x .end) ∷ [], (vint w64 (x .at) ∷ [], (lv ∷ [], tt)))),
+  (refl, ((refl, g .start-fits), ((refl, g .end-fits), ((refl, g .at-fits), (g .line-is, tt))))),
 )
 
 pub whole-of : (x : Session) → Is S.the-row x (S′.lowered x ∷ []) → Whole x (L′.lowered (x .line))
 whole-of x g =
     let p = LL.owed S.the-type S′.the-laws x _ g in
     record {
-      line-is = subst (Is L.the-row (x .line)) (L′.lowers .val-is (x .line) _ (p .0)) (p .0);
-      start-fits = p .1 .0 .1;
-      end-fits = p .1 .1 .0 .1;
-      at-fits = p .1 .1 .1 .0 .1;
+      line-is = subst (Is L.the-row (x .line)) (L′.lowers .val-is (x .line) _ (p .1 .1 .1 .0)) (p .1 .1 .1 .0);
+      start-fits = p .0 .1;
+      end-fits = p .1 .0 .1;
+      at-fits = p .1 .1 .0 .1;
     }

@@ -21,12 +21,13 @@ pub struct Block {
     pub at: usize,
 }
 
-// A session over a block: the line of text that begins at `start` ends at `end`, and its answer goes to `at`.
+// A session over a block: the line of text that begins at `start` ends at `end`, and its answer goes to `at`. The line is
+// last, so that no place in a session depends on its size.
 pub(crate) struct Session {
-    pub(crate) line: Line,
     pub(crate) start: usize,
     pub(crate) end: usize,
     pub(crate) at: usize,
+    pub(crate) line: Line,
 }
 
 // The session at the first line of a block, for an output of so many bytes.
@@ -35,10 +36,10 @@ pub(crate) fn begin(line: Line, input: &[u8], room: usize) -> Session
 {
     let end = stop_at(input, 0, room, 0);
     Session {
-        line: line,
         start: 0,
         end: end,
         at: 0,
+        line: line,
     }
 }
 
@@ -64,17 +65,17 @@ pub(crate) fn next(served: Served, input: &[u8], lf: usize, out: &[u8]) -> Sessi
         let start = lf + 1;
         let end = stop_at(input, start, out.len(), at);
         return Session {
-            line: line,
             start: start,
             end: end,
             at: at,
+            line: line,
         };
     }
     Session {
-        line: line,
         start: n,
         end: n,
         at: at,
+        line: line,
     }
 }
 

@@ -111,10 +111,6 @@ part-within i j m h g = omega (arith, h, g)
 nearer : (m i k j : ℕ) → i < m → k ≡ i + 1 → k ≤ j → m - j < m - i
 nearer m i k j h e g = omega (arith, h, e, g)
 
--- the bytes of a line: in a session the next fields lie behind them
-abbrev size-line : ℕ
-size-line = 624
-
 -- what a turn begins with
 pub record Turn (inp : List ℕ) (n n₁ n₃ : ℕ) (from : Memories) (bytes : List ℕ) : Type 0 where
   pub at : Session
@@ -215,7 +211,7 @@ module _ {M : Type 1} (𝓤 : URA M) (H : Heap 𝓤) (A : Atoms 𝓤) (W : Given
   module _ (l₀ l₁ l₂ l₃ l₄ l₅ l₆ l₇ l₈ l₉ l₁₀ l₁₁ l₁₂ l₁₃ l₁₄ l₁₅ l₁₆ l₁₇ l₁₈ l₁₉ l₂₀ : ℕ) where
     abbrev Held : State → List (Item 𝓤)
     Held t = ‵ (Own (t .ys)) ∷ ‵ (flft κ q) ∷ ‵ (Own₁ (t .ts)) ∷ ‵ (flft κ₁ q₁) ∷ ‵ Input ∷ ‵ (flft κ₂ q₂) ∷ ‵ (Own₃ (t .us)) ∷ ‵ (flft κ₃ q₃) ∷
-        ‵ (froom (τ 20) l₂₀ 0) ∷ ‵ (fdies (τ 20) l₂₀) ∷ ‵ (froom (τ 19) l₁₉ 0) ∷ ‵ (fdies (τ 19) l₁₉) ∷ ‵ (froom (τ 18) l₁₈ 0) ∷ ‵ (fdies (τ 18) l₁₈) ∷ ‵ (froom (τ 17) l₁₇ 0) ∷ ‵ (fdies (τ 17) l₁₇) ∷ ‵ (froom (τ 16) l₁₆ 0) ∷ ‵ (fdies (τ 16) l₁₆) ∷ ‵ (froom (τ 15) l₁₅ 0) ∷ ‵ (fdies (τ 15) l₁₅) ∷ ‵ (froom (τ 14) l₁₄ 0) ∷ ‵ (fdies (τ 14) l₁₄) ∷ ‵ (froom (τ 13) l₁₃ 0) ∷ ‵ (fdies (τ 13) l₁₃) ∷ ‵ (froom (τ 12) l₁₂ 0) ∷ ‵ (fdies (τ 12) l₁₂) ∷ ‵ (froom (τ 11) l₁₁ 0) ∷ ‵ (fdies (τ 11) l₁₁) ∷ ‵ (froom (τ 10) l₁₀ 0) ∷ ‵ (fdies (τ 10) l₁₀) ∷ ‵ (froom (τ 9) l₉ 0) ∷ ‵ (fdies (τ 9) l₉) ∷ ‵ (froom (τ 8) l₈ 0) ∷ ‵ (fdies (τ 8) l₈) ∷ ‵ (froom (τ 7) l₇ 0) ∷ ‵ (fdies (τ 7) l₇) ∷ ‵ (fat fullShare (τ 6) l₆ 0 (sessionVal (t .lv) (t .at))) ∷ ‵ (fdies (τ 6) l₆) ∷ ‵ (fat fullShare (τ 5) l₅ 0 (s₃)) ∷ ‵ (fdies (τ 5) l₅) ∷ ‵ (fat fullShare (τ 4) l₄ 0 (s₂)) ∷ ‵ (fdies (τ 4) l₄) ∷ ‵ (fat fullShare (τ 3) l₃ 0 (s₁)) ∷ ‵ (fdies (τ 3) l₃) ∷ ‵ (fat fullShare (τ 2) l₂ 0 (s)) ∷ ‵ (fdies (τ 2) l₂) ∷ ‵ (fat fullShare (τ 1) l₁ 0 (sessionVal lv session)) ∷ ‵ (fdies (τ 1) l₁) ∷ ‵ (froom (τ 0) l₀ 0) ∷ ‵ (fdies (τ 0) l₀) ∷ []
+        ‵ (froom (τ 20) l₂₀ 0) ∷ ‵ (fdies (τ 20) l₂₀) ∷ ‵ (froom (τ 19) l₁₉ 0) ∷ ‵ (fdies (τ 19) l₁₉) ∷ ‵ (froom (τ 18) l₁₈ 0) ∷ ‵ (fdies (τ 18) l₁₈) ∷ ‵ (froom (τ 17) l₁₇ 0) ∷ ‵ (fdies (τ 17) l₁₇) ∷ ‵ (froom (τ 16) l₁₆ 0) ∷ ‵ (fdies (τ 16) l₁₆) ∷ ‵ (froom (τ 15) l₁₅ 0) ∷ ‵ (fdies (τ 15) l₁₅) ∷ ‵ (froom (τ 14) l₁₄ 0) ∷ ‵ (fdies (τ 14) l₁₄) ∷ ‵ (froom (τ 13) l₁₃ 0) ∷ ‵ (fdies (τ 13) l₁₃) ∷ ‵ (froom (τ 12) l₁₂ 0) ∷ ‵ (fdies (τ 12) l₁₂) ∷ ‵ (froom (τ 11) l₁₁ 0) ∷ ‵ (fdies (τ 11) l₁₁) ∷ ‵ (froom (τ 10) l₁₀ 0) ∷ ‵ (fdies (τ 10) l₁₀) ∷ ‵ (froom (τ 9) l₉ 0) ∷ ‵ (fdies (τ 9) l₉) ∷ ‵ (froom (τ 8) l₈ 0) ∷ ‵ (fdies (τ 8) l₈) ∷ ‵ (froom O′.mir l₇ 0) ∷ ‵ (fdies O′.mir l₇) ∷ ‵ (fat fullShare S′.mir l₆ 0 (sessionVal (t .lv) (t .at))) ∷ ‵ (fdies S′.mir l₆) ∷ ‵ (fat fullShare (τ 5) l₅ 0 (s₃)) ∷ ‵ (fdies (τ 5) l₅) ∷ ‵ (fat fullShare (τ 4) l₄ 0 (s₂)) ∷ ‵ (fdies (τ 4) l₄) ∷ ‵ (fat fullShare (τ 3) l₃ 0 (s₁)) ∷ ‵ (fdies (τ 3) l₃) ∷ ‵ (fat fullShare (τ 2) l₂ 0 (s)) ∷ ‵ (fdies (τ 2) l₂) ∷ ‵ (fat fullShare S′.mir l₁ 0 (sessionVal lv session)) ∷ ‵ (fdies S′.mir l₁) ∷ ‵ (froom S′.mir l₀ 0) ∷ ‵ (fdies S′.mir l₀) ∷ []
 
   module _ (𝓣 : Tables 𝓤 H) (known-serve : Triple 𝓤 (𝓣 .C #serve) (Serve 𝓤 H A mem run)) (known-next : Triple 𝓤 (𝓣 .C #next) (Next 𝓤 H A mem run)) (ends : (Ends inp (length us) session) × (session .at ≡ 0)) where
     abbrev fm : FmC 𝓤 H (W .laws) (𝓣 .C)
@@ -238,7 +234,7 @@ module _ {M : Type 1} (𝓤 : URA M) (H : Heap 𝓤) (A : Atoms 𝓤) (W : Given
         assigns ! (of-opd ! (load ! (from ! (stop !)) (look ! 46 {τ = S′.mir} {v = sessionVal lv session} refl))) (from ! (stop !)) (init ! 36 {τ = S′.mir} {v = sessionVal lv session} refl (session-typed 𝓤 H A W session lv session-whole)) $
         first ! $ blocks ! $ loops ! 𝓣 Nearer Nearer-wf (Held l₀ l₁ l₂ l₃ l₄ l₅ l₆ l₇ l₈ l₉ l₁₀ l₁₁ l₁₂ l₁₃ l₁₄ l₁₅ l₁₆ l₁₇ l₁₈ l₁₉ l₂₀) (λ t.
         assigns ! (of-opd ! (load ! (from ! (fld ! refl (stop !))) (look-in ! 40 (sub ! 1 refl (whole !))))) (from ! (stop !)) (init ! 32 refl (tt, record { fits = room₂ .0 })) $
-        assigns ! (bin ! (load ! (from ! (fld ! {τ = (tyInt w64)} {d = size-line + 8} refl (stop !))) (look-in ! 36 (sub ! 2 {τ = (tyInt w64)} {d = size-line + 8} refl (whole ! {τ = S′.mir} {v = sessionVal (t .lv) (t .at)})))) (load ! (from ! (stop !)) (look ! 32 refl)) tt) (from ! (stop !)) (init ! 30 refl (tt, tt)) $
+        assigns ! (bin ! (load ! (from ! (fld ! {τ = (tyInt w64)} {d = 8} refl (stop !))) (look-in ! 36 (sub ! 1 {τ = (tyInt w64)} {d = 8} refl (whole ! {τ = S′.mir} {v = sessionVal (t .lv) (t .at)})))) (load ! (from ! (stop !)) (look ! 32 refl)) tt) (from ! (stop !)) (init ! 30 refl (tt, tt)) $
         elim (by-cases (ltb (t .at .end) (length inp))) [
           | inl y ↦
               -- a line
@@ -247,8 +243,8 @@ module _ {M : Type 1} (𝓤 : URA M) (H : Heap 𝓤) (A : Atoms 𝓤) (W : Given
               assigns ! (agg ! (and-then ! (load ! (from ! (stop !)) (look ! 28 refl)) (and-then ! (load ! (from ! (fld ! refl (stop !))) (look-in ! 44 (sub ! 1 refl (whole !)))) (no-more !)))) (from ! (stop !)) (init ! 26 refl (tt, (tt, (record { fits = room .0 }, tt)))) $
               assigns ! (addr ! (from ! (fld ! refl (hop ! (look-in ! 42 (sub ! 0 refl (whole !))) (stop !))))) (from ! (stop !)) (init ! 24 refl (tt, tt)) $
               assigns ! (agg ! (and-then ! (load ! (from ! (stop !)) (look ! 24 refl)) (and-then ! (load ! (from ! (fld ! refl (stop !))) (look-in ! 42 (sub ! 1 refl (whole !)))) (no-more !)))) (from ! (stop !)) (init ! 22 refl (tt, (tt, (record { fits = room₁ .0 }, tt)))) $
-              assigns ! (bin ! (load ! (from ! (fld ! refl (stop !))) (look-in ! 40 (sub ! 0 refl (whole !)))) (load ! (from ! (fld ! {τ = (tyInt w64)} {d = size-line} refl (stop !))) (look-in ! 36 (sub ! 1 {τ = (tyInt w64)} {d = size-line} refl (whole ! {τ = S′.mir} {v = sessionVal (t .lv) (t .at)})))) tt) (from ! (stop !)) (init ! 20 refl (tt, tt)) $
-              assigns ! (bin ! (load ! (from ! (fld ! {τ = (tyInt w64)} {d = size-line + 8} refl (stop !))) (look-in ! 36 (sub ! 2 {τ = (tyInt w64)} {d = size-line + 8} refl (whole ! {τ = S′.mir} {v = sessionVal (t .lv) (t .at)})))) (load ! (from ! (fld ! {τ = (tyInt w64)} {d = size-line} refl (stop !))) (look-in ! 36 (sub ! 1 {τ = (tyInt w64)} {d = size-line} refl (whole ! {τ = S′.mir} {v = sessionVal (t .lv) (t .at)})))) (session-order inp (length us) (t .at) (t .ends))) (from ! (stop !)) (store ! 32 refl (tt, record { fits = less-fits (t .at .start) (t .at .end) (t .whole .end-fits) })) $
+              assigns ! (bin ! (load ! (from ! (fld ! refl (stop !))) (look-in ! 40 (sub ! 0 refl (whole !)))) (load ! (from ! (fld ! {τ = (tyInt w64)} {d = 0} refl (stop !))) (look-in ! 36 (sub ! 0 {τ = (tyInt w64)} {d = 0} refl (whole ! {τ = S′.mir} {v = sessionVal (t .lv) (t .at)})))) tt) (from ! (stop !)) (init ! 20 refl (tt, tt)) $
+              assigns ! (bin ! (load ! (from ! (fld ! {τ = (tyInt w64)} {d = 8} refl (stop !))) (look-in ! 36 (sub ! 1 {τ = (tyInt w64)} {d = 8} refl (whole ! {τ = S′.mir} {v = sessionVal (t .lv) (t .at)})))) (load ! (from ! (fld ! {τ = (tyInt w64)} {d = 0} refl (stop !))) (look-in ! 36 (sub ! 0 {τ = (tyInt w64)} {d = 0} refl (whole ! {τ = S′.mir} {v = sessionVal (t .lv) (t .at)})))) (session-order inp (length us) (t .at) (t .ends))) (from ! (stop !)) (store ! 32 refl (tt, record { fits = less-fits (t .at .start) (t .at .end) (t .whole .end-fits) })) $
               assigns ! (addr ! (from ! (hop ! (look ! 20 refl) (stop !)))) (from ! (stop !)) (init ! 18 refl (tt, tt)) $
               assigns ! (agg ! (and-then ! (load ! (from ! (stop !)) (look ! 18 refl)) (and-then ! (load ! (from ! (stop !)) (look ! 32 refl)) (no-more !)))) (from ! (stop !)) (init ! 16 refl (tt, (tt, (record { fits = less-fits (t .at .start) (t .at .end) (t .whole .end-fits) }, tt)))) $
               assigns ! (addr ! (from ! (fld ! refl (hop ! (look-in ! 38 (sub ! 0 refl (whole !))) (stop !))))) (from ! (stop !)) (init ! 14 refl (tt, tt)) $
@@ -261,7 +257,7 @@ module _ {M : Type 1} (𝓤 : URA M) (H : Heap 𝓤) (A : Atoms 𝓤) (W : Given
               -- [the line; κ₂'s token; the input; the output lent; ν₃'s token; what is kept; the tallies lent; ν₁'s; kept; the records lent; ν's; kept; _20; …]
               move ! (9 ∷ 10 ∷ 6 ∷ 7 ∷ 0 ∷ 1 ∷ 3 ∷ 4 ∷ []) $ use8 W (raw (Serve 𝓤 H A mem run .pre (to-serve 𝓤 H A mem run W (ν ∷ []) (ν₁ ∷ []) κ₂ (ν₃ ∷ []) fullShare fullShare q₂ fullShare (t .at .line) (t .lv) b o (length ys) δ (t .ys) b₁ o₁ (length ts) δ₁ (t .ts) b₂ (t .at .start + o₂) (t .at .end - t .at .start) δ₂ (take (t .at .end - t .at .start) (drop-list (t .at .start) inp)) b₃ o₃ (length us) δ₃ (t .us) (t .at .at) (t .whole .line-is) (t .whole .at-fits)))) (asks-serve 𝓤 H A mem run W (ν ∷ []) (ν₁ ∷ []) κ₂ (ν₃ ∷ []) fullShare fullShare q₂ fullShare (t .at .line) (t .lv) b o (length ys) δ (t .ys) b₁ o₁ (length ts) δ₁ (t .ts) b₂ (t .at .start + o₂) (t .at .end - t .at .start) δ₂ (take (t .at .end - t .at .start) (drop-list (t .at .start) inp)) b₃ o₃ (length us) δ₃ (t .us) (t .at .at) (t .whole .line-is) (t .whole .at-fits)) $
               -- [what `serve` asks; the input; kept of the output, of the tallies, of the records; _20; …]
-              calls-at ! fm (Serve 𝓤 H A mem run) known-serve (to-serve 𝓤 H A mem run W (ν ∷ []) (ν₁ ∷ []) κ₂ (ν₃ ∷ []) fullShare fullShare q₂ fullShare (t .at .line) (t .lv) b o (length ys) δ (t .ys) b₁ o₁ (length ts) δ₁ (t .ts) b₂ (t .at .start + o₂) (t .at .end - t .at .start) δ₂ (take (t .at .end - t .at .start) (drop-list (t .at .start) inp)) b₃ o₃ (length us) δ₃ (t .us) (t .at .at) (t .whole .line-is) (t .whole .at-fits)) (and-then ! (load ! (from ! (fld ! {τ = L′.mir} {d = 0} refl (stop !))) (look-in ! 33 (sub ! 0 {τ = L′.mir} {d = 0} refl (whole ! {τ = S′.mir} {v = sessionVal (t .lv) (t .at)})))) (and-then ! (load ! (from ! (stop !)) (look ! 23 refl)) (and-then ! (load ! (from ! (stop !)) (look ! 19 refl)) (and-then ! (load ! (from ! (stop !)) (look ! 13 refl)) (and-then ! (load ! (from ! (stop !)) (look ! 9 refl)) (and-then ! (load ! (from ! (fld ! {τ = (tyInt w64)} {d = size-line + 16} refl (stop !))) (look-in ! 33 (sub ! 3 {τ = (tyInt w64)} {d = size-line + 16} refl (whole ! {τ = S′.mir} {v = sessionVal (t .lv) (t .at)})))) (no-more !))))))) (λ w.
+              calls-at ! fm (Serve 𝓤 H A mem run) known-serve (to-serve 𝓤 H A mem run W (ν ∷ []) (ν₁ ∷ []) κ₂ (ν₃ ∷ []) fullShare fullShare q₂ fullShare (t .at .line) (t .lv) b o (length ys) δ (t .ys) b₁ o₁ (length ts) δ₁ (t .ts) b₂ (t .at .start + o₂) (t .at .end - t .at .start) δ₂ (take (t .at .end - t .at .start) (drop-list (t .at .start) inp)) b₃ o₃ (length us) δ₃ (t .us) (t .at .at) (t .whole .line-is) (t .whole .at-fits)) (and-then ! (load ! (from ! (fld ! {τ = L′.mir} {d = 24} refl (stop !))) (look-in ! 33 (sub ! 3 {τ = L′.mir} {d = 24} refl (whole ! {τ = S′.mir} {v = sessionVal (t .lv) (t .at)})))) (and-then ! (load ! (from ! (stop !)) (look ! 23 refl)) (and-then ! (load ! (from ! (stop !)) (look ! 19 refl)) (and-then ! (load ! (from ! (stop !)) (look ! 13 refl)) (and-then ! (load ! (from ! (stop !)) (look ! 9 refl)) (and-then ! (load ! (from ! (fld ! {τ = (tyInt w64)} {d = 16} refl (stop !))) (look-in ! 33 (sub ! 2 {τ = (tyInt w64)} {d = 16} refl (whole ! {τ = S′.mir} {v = sessionVal (t .lv) (t .at)})))) (no-more !))))))) (λ w.
               use1 W (later (some (λ (made : Served). some (λ (zs : List Settings). some (λ (vs : List ℤ). some (λ (os : List ℕ). given (Is O.the-row made (w ∷ [])) (given (Answers (t .at .line) (t .ys) (t .ts) (take (t .at .end - t .at .start) (drop-list (t .at .start) inp)) (t .us) (t .at .at) made zs vs os) (given (length zs ≡ length (t .ys)) (given (length vs ≡ length (t .ts)) (given (length os ≡ length (t .us))
               (‵ (finally R δ zs) ⊛ (‵ (flft (ν ∷ []) fullShare) ⊛ (‵ (finally i64 δ₁ vs) ⊛ (‵ (flft (ν₁ ∷ []) fullShare) ⊛ (‵ (flft κ₂ q₂) ⊛ (‵ (finally u8 δ₃ os) ⊛ ‵ (flft (ν₃ ∷ []) fullShare)))))))))))))))))
               (ended-serve 𝓤 H A mem run W (ν ∷ []) (ν₁ ∷ []) κ₂ (ν₃ ∷ []) fullShare fullShare q₂ fullShare (t .at .line) (t .lv) b o (length ys) δ (t .ys) b₁ o₁ (length ts) δ₁ (t .ts) b₂ (t .at .start + o₂) (t .at .end - t .at .start) δ₂ (take (t .at .end - t .at .start) (drop-list (t .at .start) inp)) b₃ o₃ (length us) δ₃ (t .us) (t .at .at) (t .whole .line-is) (t .whole .at-fits) w) $ await ! tt $ pick ! (λ made. pick ! (λ zs. pick ! (λ vs. pick ! (λ os. learn ! (λ made-is. learn ! (λ answers. learn ! (λ same. learn ! (λ same₁. learn ! (λ same₃.
@@ -278,7 +274,7 @@ module _ {M : Type 1} (𝓤 : URA M) (H : Heap 𝓤) (A : Atoms 𝓤) (W : Given
               use1 W (‵ Input ⊛ ‵ Input) (shr-slice-copy 𝓤 H A W (named 2) κ₂ u8 .twice (ref b₂ o₂ γ₂ inp) (s₂ ∷ [])) $ split ! $ move ! (0 ∷ 9 ∷ 2 ∷ 3 ∷ []) $
               use4 W (raw (Next 𝓤 H A mem run .pre (to-next 𝓤 H A mem run W κ₂ (ν ∷ []) q₂ fullShare made w b₂ o₂ (length inp) γ₂ inp (t .at .end) b₃ o₃ (length us) δ os made-is (t .whole .end-fits)))) (asks-next 𝓤 H A mem run W κ₂ (ν ∷ []) q₂ fullShare made w b₂ o₂ (length inp) γ₂ inp (t .at .end) b₃ o₃ (length us) δ os made-is (t .whole .end-fits)) $
               -- [what `next` asks; the input; kept of the output; the records; κ's token; the tallies; κ₁'s; _20; …]
-              calls-at-last ! fm (Next 𝓤 H A mem run) known-next (to-next 𝓤 H A mem run W κ₂ (ν ∷ []) q₂ fullShare made w b₂ o₂ (length inp) γ₂ inp (t .at .end) b₃ o₃ (length us) δ os made-is (t .whole .end-fits)) (and-then ! (load ! (from ! (stop !)) (look ! 33 {τ = O′.mir} {v = w} refl)) (and-then ! (load ! (from ! (stop !)) (look ! 39 refl)) (and-then ! (load ! (from ! (fld ! {τ = (tyInt w64)} {d = size-line + 8} refl (stop !))) (look-in ! 35 (sub ! 2 {τ = (tyInt w64)} {d = size-line + 8} refl (whole ! {τ = S′.mir} {v = sessionVal (t .lv) (t .at)})))) (and-then ! (load ! (from ! (stop !)) (look ! 7 refl)) (no-more !))))) (λ w₁.
+              calls-at-last ! fm (Next 𝓤 H A mem run) known-next (to-next 𝓤 H A mem run W κ₂ (ν ∷ []) q₂ fullShare made w b₂ o₂ (length inp) γ₂ inp (t .at .end) b₃ o₃ (length us) δ os made-is (t .whole .end-fits)) (and-then ! (load ! (from ! (stop !)) (look ! 33 {τ = O′.mir} {v = w} refl)) (and-then ! (load ! (from ! (stop !)) (look ! 39 refl)) (and-then ! (load ! (from ! (fld ! {τ = (tyInt w64)} {d = 8} refl (stop !))) (look-in ! 35 (sub ! 1 {τ = (tyInt w64)} {d = 8} refl (whole ! {τ = S′.mir} {v = sessionVal (t .lv) (t .at)})))) (and-then ! (load ! (from ! (stop !)) (look ! 7 refl)) (no-more !))))) (λ w₁.
               use1 W (later (some (λ (r : Session). some (λ (lv′ : Val). given (w₁ ≡ sessionVal lv′ r) (given (Whole r lv′) (given (Follows (made .line) (made .at) inp (t .at .end) (length os) r)
               (‵ (flft κ₂ q₂) ⊛ ‵ (flft (ν ∷ []) fullShare)))))))) (ended-next 𝓤 H A mem run W κ₂ (ν ∷ []) q₂ fullShare made w b₂ o₂ (length inp) γ₂ inp (t .at .end) b₃ o₃ (length us) δ os made-is (t .whole .end-fits) w₁) $ await ! tt $ pick ! (λ r. pick ! (λ lv′. learn ! (λ e₁. learn ! (λ r-whole. learn ! (λ follows. split ! $
               -- [κ₂'s token; ν's; the input; kept of the output; the records; κ's; the tallies; κ₁'s; _20; …]
