@@ -1,8 +1,8 @@
 -- The tally of a page: one more verdict, its total, its fitness. Assumes nothing.
-use mathlib.Core.Path.{_≡_, refl, sym}
+use mathlib.Core.Path.{_≡_, refl, sym, ap, _∙_}
 use mathlib.Core.Bool.{Bool, true, false, _&&_}
 use mathlib.Core.List.{List, [], _∷_}
-use Prim.Native.Nat.{ℕ, suc, _+_, _*_, _≤_}
+use Prim.Native.Nat.{ℕ, suc, _+_, _*_, _≤_, _<_}
 use native.Mathlib.Nat.{mul-le-mul}
 use native.Mathlib.Omega.{arith}
 use lib.Dec.{ltb, eqb}
@@ -10,16 +10,23 @@ use lib.IntN.{ℤ, natAbs, _+ℤ_}
 use lib.ListN.{length}
 use lib.Signed.{ltZ}
 use borrow.Author.Tests.{leb-true, le-leb, eq-eqb, ne-eqb}
-use Rattle.laws.specs.Choice.{if_then_else_, within}
+use Rattle.laws.specs.Choice.{if_then_else_, within, bit}
 use Rattle.weight.specs.Weight.{isWeight}
-use Rattle.laws.proofs.Tests.{and-intro, if-ind}
+use Rattle.laws.proofs.Tests.{and-intro, if-ind, by-cases}
 use Rattle.laws.proofs.Signed.{abs-add}
 use Rattle.lists.specs.Sums.{sumOf, squaresOf}
+use Rattle.lists.specs.Each.{counted}
+use Rattle.lists.specs.Counts.{addUp, oneMore, tab}
+use Rattle.lists.proofs.Counts.{here, sum-one-more, tab-same, tab-length, tab-more}
 use Rattle.tally.specs.Tally.{graded, total, emptyTally, tallyFit, hasRoom, largestWith, smallestWith, countedWith, weighedWith, added, isVerdict}
 use Rattle.tally.specs.declared.tally.Tally.{Tally}
 use Rattle.tally.proofs.Ones.{ones, grade-ones}
 use Rattle.book.specs.Book.{Verdict}
-use Rattle.book.specs.Page.{countOf, netsOf, largestFrom, smallestFrom, largestOf, smallestOf, tallyOfPage}
+use Rattle.part.specs.Class.{holds, classOf}
+use Rattle.part.specs.Part.{Part, emptyPart, partFit, addedPart}
+use Rattle.part.proofs.Held.{class-known, holds-is}
+use Rattle.part.proofs.Laws.{part-fit}
+use Rattle.book.specs.Page.{countOf, netsOf, largestFrom, smallestFrom, largestOf, smallestOf, tallyOfPage, inClass, histogram, partOfPage}
 
 -- ---- one more verdict
 
@@ -166,3 +173,69 @@ page-room f = rw (page-total f)
 pub page-none : tallyOfPage [] ≡ emptyTally
 unfolding tallyOfPage countOf netsOf sumOf squaresOf
 page-none = refl
+
+-- ---- the class counts
+
+-- one more graded verdict is one more in its class
+module _ (v : Verdict) (p : List Verdict) where
+  abbrev class : ℕ
+  class = classOf (v .net) (v .target)
+
+  -- a graded verdict is in the class that holds it, another in none
+  in-class : {a b c : Bool} → a ≡ true → b ≡ c → a && b ≡ c
+  in-class p q = rw (p, q) refl
+
+  no-class : {a : Bool} (b : Bool) → a ≡ false → a && b ≡ false
+  no-class b p = rw p refl
+
+  one : within 1 5 (v .outcome) ≡ true → (k : ℕ) → k < 21 → counted (inClass k) (v ∷ p) ≡ counted (inClass k) p + here class k
+  unfolding counted
+  one g k h =
+      let e : inClass k v ≡ eqb class k = in-class g (holds-is (v .net) (v .target) k (omega arith)) in
+      rw e (omega arith)
+
+  none-more : within 1 5 (v .outcome) ≡ false → (k : ℕ) → k < 21 → counted (inClass k) (v ∷ p) ≡ counted (inClass k) p
+  unfolding counted
+  none-more n k h =
+      let e : inClass k v ≡ false = no-class (holds k (v .net) (v .target)) n in
+      rw e (omega arith)
+
+  graded-more : within 1 5 (v .outcome) ≡ true → histogram (v ∷ p) ≡ oneMore (histogram p) class
+  graded-more g =
+      tab-same 21 (λ (k : ℕ). counted (inClass k) (v ∷ p)) (λ (k : ℕ). counted (inClass k) p + here class k) (one g)
+      ∙ sym (tab-more 21 (λ (k : ℕ). counted (inClass k) p) class (omega (arith, class-known (v .net) (v .target))))
+
+  other-more : within 1 5 (v .outcome) ≡ false → histogram (v ∷ p) ≡ histogram p
+  other-more n = tab-same 21 (λ (k : ℕ). counted (inClass k) (v ∷ p)) (λ (k : ℕ). counted (inClass k) p) (none-more n)
+
+  histogram-more : histogram (v ∷ p) ≡ (if within 1 5 (v .outcome) then oneMore (histogram p) class else histogram p)
+  histogram-more =
+      if-ind (λ (l : List ℕ). histogram (v ∷ p) ≡ l) (within 1 5 (v .outcome)) (oneMore (histogram p) class) (histogram p) graded-more other-more
+
+pub part-more : (v : Verdict) (p : List Verdict) → partOfPage (v ∷ p) ≡ addedPart (partOfPage p) (v .outcome) (v .net) (v .target)
+unfolding addedPart
+part-more v p = rw (page-more v p, histogram-more v p)
+
+pub part-none : partOfPage [] ≡ emptyPart
+unfolding tallyOfPage countOf netsOf sumOf squaresOf counted
+part-none = refl
+
+none-counted : addUp (histogram []) ≡ 0
+unfolding addUp counted
+none-counted = refl
+
+-- "The 21 counts add to n"
+pub counts-add : (p : List Verdict) → addUp (histogram p) ≡ length (netsOf p)
+unfolding netsOf
+counts-add [] = none-counted
+counts-add (v ∷ p) =
+    by-cases (within 1 5 (v .outcome))
+    (λ g. ap addUp (graded-more v p g)
+    ∙ sum-one-more (histogram p) (class v p) (omega (arith, class-known (v .net) (v .target), tab-length 21 (λ (k : ℕ). counted (inClass k) p)))
+    ∙ rw g (omega (arith, counts-add p)))
+    (λ n. ap addUp (other-more v p n) ∙ rw n (counts-add p))
+
+pub page-part-fit : {p : List Verdict} → Fine p → length p ≤ 999999 → partFit (partOfPage p) ≡ true
+unfolding tallyOfPage
+page-part-fit {p} f h =
+    part-fit (partOfPage p) (record { tally = page-fit f h; count = tab-length 21 (λ (k : ℕ). counted (inClass k) p); sum = counts-add p })

@@ -1,5 +1,7 @@
 -- 01, "Counts are by outcome; n, S, Q, largest and smallest (0 if none) are over the nets of outcomes 1 to 5."
+-- 02, T-05: "each count is that of the standing graded verdicts in its class".
 use Prim.Native.Nat.{ℕ, _+_}
+use mathlib.Core.Bool.{Bool, _&&_}
 use mathlib.Core.List.{List, [], _∷_}
 use lib.Dec.{eqb}
 use lib.IntN.{ℤ, pos}
@@ -7,7 +9,11 @@ use lib.ListN.{length}
 use lib.Signed.{ltZ}
 use Rattle.laws.specs.Choice.{if_then_else_, within}
 use Rattle.lists.specs.Sums.{sumOf, squaresOf}
+use Rattle.lists.specs.Each.{counted}
+use Rattle.lists.specs.Counts.{tab}
 use Rattle.tally.specs.declared.tally.Tally.{Tally}
+use Rattle.part.specs.Class.{classCount, holds}
+use Rattle.part.specs.Part.{Part}
 use Rattle.book.specs.Book.{Verdict}
 
 -- how many verdicts have this outcome
@@ -56,3 +62,15 @@ tallyOfPage p =
       largest = largestOf (netsOf p);
       smallest = smallestOf (netsOf p);
     }
+
+-- a graded verdict in class k, by the target noted with it
+abbrev pub inClass : ℕ → Verdict → Bool
+inClass k v = within 1 5 (v .outcome) && holds k (v .net) (v .target)
+
+-- the counts of classes 0 to 20
+abbrev pub histogram : List Verdict → List ℕ
+histogram p = tab classCount (λ (k : ℕ). counted (inClass k) p)
+
+-- what stands under a code with this page
+abbrev pub partOfPage : List Verdict → Part
+partOfPage p = record { tally = tallyOfPage p; counts = histogram p }

@@ -24,13 +24,13 @@ isDone (Done d) = true
 abbrev NoRefusal : Out → Type 0
 NoRefusal o = isDone (o .reply) ≡ true
 
-recorded-done : (x : Effect) (ts : List ℤ) → NoRefusal (recorded x ts)
+recorded-done : (x : Effect) (target : ℤ) (ts : List ℤ) → NoRefusal (recorded x target ts)
 unfolding recorded noted replied
-recorded-done x ts = if-ind NoRefusal (isVerdict (x .outcome)) (noted x ts) (untallied x ts) (λ _. refl) (λ _. refl)
+recorded-done x target ts = if-ind NoRefusal (isVerdict (x .outcome)) (noted x target ts) (untallied x ts) (λ _. refl) (λ _. refl)
 
 pub accepted-done : (l : Line) (a : Settings) (ts : List ℤ) (e : Event) → isDone (accepted l a ts e .reply) ≡ true
 unfolding accepted replied
-accepted-done l a ts (Sample s) = recorded-done (sampled l a s) ts
+accepted-done l a ts (Sample s) = recorded-done (sampled l a s) (a .target) ts
 accepted-done l a ts Run = refl
 accepted-done l a ts Stop = refl
 accepted-done l a ts Emergency = refl

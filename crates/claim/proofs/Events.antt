@@ -15,10 +15,13 @@ use Rattle.event.specs.declared.Event.{Event}
 use Rattle.event.specs.declared.Event.the-variants.{Sample, Run, Stop, Emergency, Recall, Cancel, ClearCode, ClearAll, ErrorReset, NoOperation, Setup, Store}
 use Rattle.event.specs.declared.Setup as setup
 use Rattle.event.proofs.Facts.{in-range}
+use Rattle.sheet.proofs.Facts.{target-weight}
 use Rattle.sorters.specs.Sorters.{anySorting}
-use Rattle.tally.specs.Tally.{emptyTally, tallyFit, isVerdict}
+use Rattle.tally.specs.Tally.{isVerdict}
+use Rattle.part.specs.Part.{emptyPart, partFit}
+use Rattle.part.proofs.Laws.{empty-fit}
 use Rattle.tallies.proofs.Parts.{lies-there, written-is}
-use Rattle.tallies.specs.Memory.{withTally, zeros, talliesLength}
+use Rattle.tallies.specs.Memory.{withPart, zeros, talliesLength}
 use Rattle.status.specs.Status.{stopped, paused, emergency, errorKnown}
 use Rattle.line.specs.Line.{isRunning, busy, withStatus, withSetup, withUndo}
 use Rattle.event.specs.Reply.{noError}
@@ -29,7 +32,7 @@ use Rattle.line.specs.Sample.{sampled}
 use Rattle.line.specs.Command.{ran, stopping, alarmed}
 use Rattle.refusal.proofs.Status.{setup-stopped}
 use Rattle.refusal.specs.Rows.{readsRecord, statusRefusal, nothingToCancel}
-use Rattle.undo.specs.Undo.{nothing, noChance, undoFit, putBack}
+use Rattle.undo.specs.Undo.{nothing, noChance, keptPart, undoFit, putBack}
 use Rattle.line.specs.Tallying.{untallied, cancelled, recalled, codeCleared, clearedOne, clearedAll}
 use Rattle.line.specs.Step.{storing, accepted}
 use Rattle.item.specs.declared.Item.{Item}
@@ -42,8 +45,8 @@ use Rattle.book.specs.Book as book
 use Rattle.book.specs.Book.{Verdict, Pages, turned, lastOff, talliedBy}
 use Rattle.line.proofs.Moves as moves
 use Rattle.line.proofs.Ticks.{hand, sample-goes, run-goes, stop-goes, emergency-goes}
-use Rattle.book.proofs.Pages.{Fine, none, more, page-none}
-use Rattle.claim.proofs.Sheets.{chanceOf, beside, Back, Page, Sheets, Goes, put-sheet, zero-sheets, quiet, sample-sheets, with-undo, nothing-fit, back-nothing}
+use Rattle.book.proofs.Pages.{Fine, none, more, part-none}
+use Rattle.claim.proofs.Sheets.{chanceOf, beside, aimsOf, Back, Page, Sheets, Goes, put-sheet, zero-sheets, quiet, sample-sheets, with-undo, nothing-fit, back-nothing}
 
 -- ---- outcomes that are no verdict
 
@@ -141,11 +144,11 @@ pub record Given (l : Line) (ts : List ℤ) (f : Pages) : Type 0 where
   pub back : Back (l .undo) (f (l .code))
 
 -- an accepted event that is no verdict: the book follows the command
-command-goes : (l k : Line) (ts : List ℤ) (f g : Pages) (e : Event) → book.commanded (beside l f) e ≡ beside k g → FitLine k → Sheets ts g → Back (k .undo) (g (k .code)) → k .item ≡ l .item → Goes l f e (untallied (plain k) ts)
+command-goes : (l k : Line) (ts : List ℤ) (f h : Pages) (g : ℕ → ℤ) (e : Event) → book.commanded (beside l f g) e ≡ beside k h g → FitLine k → Sheets ts h → Back (k .undo) (h (k .code)) → k .item ≡ l .item → Goes l f g e (untallied (plain k) ts)
 unfolding book.fed replied talliedBy
-command-goes l k ts f g e c fit s b i =
+command-goes l k ts f h g e c fit s b i =
     record {
-      pages = g;
+      pages = h;
       book = c;
       line = fit;
       sheets = s;
@@ -161,54 +164,50 @@ last-off (v ∷ p) g = tail (g .fine)
     tail : Fine (v ∷ p) → Page p
     tail (more h f) = record { fine = f; few = omega (arith, g .few) }
 
-cancel-goes : (l : Line) (ts : List ℤ) (f : Pages) → noChance (l .undo) ≡ false → Given l ts f → Goes l f Cancel (cancelled l ts)
+cancel-goes : (l : Line) (ts : List ℤ) (f : Pages) (a : ℕ → ℤ) → noChance (l .undo) ≡ false → Given l ts f → Goes l f a Cancel (cancelled l ts)
 unfolding book.commanded undoFit
-cancel-goes l ts f h g =
+cancel-goes l ts f a h g =
     let c = l .code in
-    let t = l .undo .tally in
+    let q = keptPart (l .undo) in
     let low = leb-true c 99 (g .fit .code) in
-    let fit : tallyFit t ≡ true = rw h at (g .fit .undo) in
-    let back : putBack ts c (l .undo) ≡ withTally ts c t = rw h (written-is ts c t (lies-there ts c low (g .sheets .len)) fit) in
+    let fit : partFit q ≡ true = rw h at (g .fit .undo) in
+    let back : putBack ts c (l .undo) ≡ withPart ts c q = rw h (written-is ts c q (lies-there ts c low (g .sheets .len)) fit) in
     rw back
-    (command-goes l (withUndo l nothing) (withTally ts c t) f (turned f c (lastOff (f c))) Cancel refl
+    (command-goes l (withUndo l nothing) (withPart ts c q) f (turned f c (lastOff (f c))) a Cancel refl
     (with-undo l nothing (g .fit) nothing-fit)
-    (put-sheet ts f c (lastOff (f c)) t (g .sheets) low (last-off (f c) (g .sheets .pages c)) (g .back h))
+    (put-sheet ts f c (lastOff (f c)) q (g .sheets) low (last-off (f c) (g .sheets .pages c)) (g .back h))
     (back-nothing (turned f c (lastOff (f c)) c)) refl)
 
-recall-goes : (l : Line) (ts : List ℤ) (f : Pages) (c : ℕ) → leb c 99 ≡ true → Given l ts f → Goes l f (Recall c) (untallied (plain (recalled l c)) ts)
+recall-goes : (l : Line) (ts : List ℤ) (f : Pages) (a : ℕ → ℤ) (c : ℕ) → leb c 99 ≡ true → Given l ts f → Goes l f a (Recall c) (untallied (plain (recalled l c)) ts)
 unfolding book.commanded
-recall-goes l ts f c h g = command-goes l (recalled l c) ts f f (Recall c) refl (with-code l c (g .fit) h) (g .sheets) (back-nothing (f c)) refl
+recall-goes l ts f a c h g = command-goes l (recalled l c) ts f f a (Recall c) refl (with-code l c (g .fit) h) (g .sheets) (back-nothing (f c)) refl
 
-clear-all-goes : (l : Line) (ts : List ℤ) (f : Pages) → Given l ts f → Goes l f ClearAll (clearedAll l ts)
+clear-all-goes : (l : Line) (ts : List ℤ) (f : Pages) (a : ℕ → ℤ) → Given l ts f → Goes l f a ClearAll (clearedAll l ts)
 unfolding book.commanded
-clear-all-goes l ts f g =
+clear-all-goes l ts f a g =
     rw (g .sheets .len)
-    (command-goes l (withUndo l nothing) (zeros talliesLength) f (λ _. []) ClearAll refl (with-undo l nothing (g .fit) nothing-fit) zero-sheets (back-nothing []) refl)
+    (command-goes l (withUndo l nothing) (zeros talliesLength) f (λ _. []) a ClearAll refl (with-undo l nothing (g .fit) nothing-fit) zero-sheets (back-nothing []) refl)
 
-empty-sheet : (ts : List ℤ) (f : Pages) (c : ℕ) → leb c 99 ≡ true → Sheets ts f → Sheets (withTally ts c emptyTally) (turned f c [])
+empty-sheet : (ts : List ℤ) (f : Pages) (c : ℕ) → leb c 99 ≡ true → Sheets ts f → Sheets (withPart ts c emptyPart) (turned f c [])
 empty-sheet ts f c h s =
-    put-sheet ts f c [] emptyTally s (leb-true c 99 h) (record { fine = none; few = omega arith }) (sym page-none)
+    put-sheet ts f c [] emptyPart s (leb-true c 99 h) (record { fine = none; few = omega arith }) (sym part-none)
 
-empty-fit : tallyFit emptyTally ≡ true
-unfolding tallyFit
-empty-fit = refl
-
-clear-code-goes : (l : Line) (ts : List ℤ) (f : Pages) (c : ℕ) → leb c 99 ≡ true → Given l ts f → Goes l f (ClearCode c) (clearedOne l ts c)
+clear-code-goes : (l : Line) (ts : List ℤ) (f : Pages) (a : ℕ → ℤ) (c : ℕ) → leb c 99 ≡ true → Given l ts f → Goes l f a (ClearCode c) (clearedOne l ts c)
 unfolding codeCleared book.commanded
-clear-code-goes l ts f c h g =
+clear-code-goes l ts f a c h g =
     let sheets = empty-sheet ts f c h (g .sheets) in
-    rw (written-is ts c emptyTally (lies-there ts c (leb-true c 99 h) (g .sheets .len)) empty-fit)
+    rw (written-is ts c emptyPart (lies-there ts c (leb-true c 99 h) (g .sheets .len)) empty-fit)
     (by-cases (eqb c (l .code))
-    (λ y. rw y (command-goes l (withUndo l nothing) (withTally ts c emptyTally) f (turned f c []) (ClearCode c)
+    (λ y. rw y (command-goes l (withUndo l nothing) (withPart ts c emptyPart) f (turned f c []) a (ClearCode c)
     (rw (y, and-false (chanceOf (l .undo)))) (with-undo l nothing (g .fit) nothing-fit) sheets (back-nothing (turned f c [] (l .code))) refl))
-    (λ n. rw n (command-goes l l (withTally ts c emptyTally) f (turned f c []) (ClearCode c)
+    (λ n. rw n (command-goes l l (withPart ts c emptyPart) f (turned f c []) a (ClearCode c)
     (rw (n, and-true (chanceOf (l .undo)))) (g .fit) sheets
     (rw (ne-eqb (l .code) c (λ e. eqb-false c (l .code) n (sym e))) (g .back)) refl)))
 
--- a store changes neither the line nor a sheet
-store-goes : (l : Line) (ts : List ℤ) (f : Pages) (c : ℕ) (s : Settings) → Given l ts f → Goes l f (Store c s) (storing l ts c s)
+-- a store changes neither the line nor a sheet, and the book has its target
+store-goes : (l : Line) (ts : List ℤ) (f : Pages) (a : ℕ → ℤ) (c : ℕ) (s : Settings) → Given l ts f → Goes l f a (Store c s) (storing l ts c s)
 unfolding book.fed book.commanded replied talliedBy
-store-goes l ts f c s g =
+store-goes l ts f a c s g =
     record {
       pages = f;
       book = refl;
@@ -221,22 +220,24 @@ store-goes l ts f c s g =
 
 -- ---- every kind
 
-pub accepted-goes : (l : Line) (a : Settings) (ts : List ℤ) (f : Pages) (e : Event) (count : ℕ) → Given l ts f → Accepted l count a ts e → Goes l f e (accepted l a ts e)
+pub accepted-goes : (l : Line) (a : Settings) (ts : List ℤ) (f : Pages) (t : ℕ → ℤ) (e : Event) (count : ℕ) → Given l ts f → t (l .code) ≡ a .target
+    → Accepted l count a ts e → Goes l f t e (accepted l a ts e)
 unfolding accepted book.commanded eventRanged eventAgrees readsRecord statusRefusal nothingToCancel ran alarmed
-accepted-goes l a ts f (Sample s) count g h =
+accepted-goes l a ts f t (Sample s) count g at h =
     let m = sound-tells l count a ts (Sample s) (h .sound) in
-    sample-sheets l ts f (Sample s) (sampled l a s) (sample-goes l a s (g .fit) (m .active) (in-range s (h .ranged))) (g .sheets) (g .back) (λ b. refl)
-accepted-goes l a ts f Run count g h = quiet l ts f Run (ran l) (run-goes l (g .fit)) (g .sheets) (g .back) refl (λ b. refl)
-accepted-goes l a ts f Stop count g h = quiet l ts f Stop (stopping l) (stop-goes l (g .fit)) (g .sheets) (g .back) (stop-quiet l) (λ b. refl)
-accepted-goes l a ts f Emergency count g h = quiet l ts f Emergency (alarmed l) (emergency-goes l (g .fit)) (g .sheets) (g .back) (halting-quiet l emergency) (λ b. refl)
-accepted-goes l a ts f (Recall c) count g h = recall-goes l ts f c (h .ranged) g
-accepted-goes l a ts f Cancel count g h = cancel-goes l ts f (h .chance) g
-accepted-goes l a ts f (ClearCode c) count g h = clear-code-goes l ts f c (h .ranged) g
-accepted-goes l a ts f ClearAll count g h = clear-all-goes l ts f g
-accepted-goes l a ts f ErrorReset count g h =
-    command-goes l (withStatus l (l .status) noError) ts f f ErrorReset refl (no-error l (g .fit)) (g .sheets) (g .back) refl
-accepted-goes l a ts f NoOperation count g h = command-goes l l ts f f NoOperation refl (g .fit) (g .sheets) (g .back) refl
-accepted-goes l a ts f (Setup s) count g h =
-    command-goes l (withSetup l s) ts f f (Setup s) refl
+    sample-sheets l ts f t (Sample s) (sampled l a s) (a .target) (sample-goes l a s (g .fit) (m .active) (in-range s (h .ranged))) (g .sheets) (g .back) (λ b. refl)
+    (target-weight a (m .active)) at
+accepted-goes l a ts f t Run count g at h = quiet l ts f t Run (ran l) (run-goes l (g .fit)) (g .sheets) (g .back) refl (λ b. refl)
+accepted-goes l a ts f t Stop count g at h = quiet l ts f t Stop (stopping l) (stop-goes l (g .fit)) (g .sheets) (g .back) (stop-quiet l) (λ b. refl)
+accepted-goes l a ts f t Emergency count g at h = quiet l ts f t Emergency (alarmed l) (emergency-goes l (g .fit)) (g .sheets) (g .back) (halting-quiet l emergency) (λ b. refl)
+accepted-goes l a ts f t (Recall c) count g at h = recall-goes l ts f t c (h .ranged) g
+accepted-goes l a ts f t Cancel count g at h = cancel-goes l ts f t (h .chance) g
+accepted-goes l a ts f t (ClearCode c) count g at h = clear-code-goes l ts f t c (h .ranged) g
+accepted-goes l a ts f t ClearAll count g at h = clear-all-goes l ts f t g
+accepted-goes l a ts f t ErrorReset count g at h =
+    command-goes l (withStatus l (l .status) noError) ts f f t ErrorReset refl (no-error l (g .fit)) (g .sheets) (g .back) refl
+accepted-goes l a ts f t NoOperation count g at h = command-goes l l ts f f t NoOperation refl (g .fit) (g .sheets) (g .back) refl
+accepted-goes l a ts f t (Setup s) count g at h =
+    command-goes l (withSetup l s) ts f f t (Setup s) refl
     (with-setup l s (g .fit) (and-intro (h .ranged) (h .agrees)) (setup-stopped (l .status) s (status-known l (g .fit .status)) (h .status))) (g .sheets) (g .back) refl
-accepted-goes l a ts f (Store c s) count g h = store-goes l ts f c s g
+accepted-goes l a ts f t (Store c s) count g at h = store-goes l ts f t c s g

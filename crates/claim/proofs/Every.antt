@@ -6,7 +6,7 @@ use mathlib.Core.List.{List, [], _∷_}
 use Prim.Native.Nat.{ℕ, _+_, _*_, _≤_}
 use native.Mathlib.Omega.{arith}
 use lib.Dec.{T, eqb, leb}
-use lib.IntN.{ℤ}
+use lib.IntN.{ℤ, pos}
 use lib.ListN.{length, getD, set, replicate, length-set, length-replicate, getD-replicate}
 use lib.Seq.{getD-set-same, getD-set-other}
 use borrow.Author.Tests.{eqb-true, eqb-false, leb-true, le-leb}
@@ -46,8 +46,10 @@ use Rattle.refusal.proofs.Numbers.{not-eight}
 use Rattle.line.proofs.Facts.{FitLine, tells-fit}
 use Rattle.line.proofs.Accepted.{accepted-tells}
 use Rattle.book.specs.Book as book
-use Rattle.book.specs.Book.{Verdict, Pages, Turn, talliedBy, bookOf}
-use Rattle.book.specs.Page.{netsOf, tallyOfPage}
+use Rattle.book.specs.Book.{Verdict, Pages, Turn, aimed, talliedBy, bookOf}
+use Rattle.book.specs.Page.{netsOf, tallyOfPage, partOfPage}
+use Rattle.book.proofs.Pages.{page-fit}
+use Rattle.line.specs.declared.storing.Storing.the-variants.{Nothing}
 use Rattle.claim.specs.Run.{World, freshWorld, answer, after, runFrom, run}
 use Rattle.book.specs.Boxes.{detectedBy, outcomeOf, sumOver, detectedIn, judgedIn, outcomesIn, inHandAfter}
 use Rattle.claim.specs.Claim.{refusalIn, Stands, Claim}
@@ -55,69 +57,78 @@ use Rattle.line.proofs.Moves as moves
 use Rattle.claim.proofs.Level.{Level, level}
 use Rattle.line.proofs.Ticks.{hand}
 use Rattle.tally.specs.Tally.{isVerdict}
-use Rattle.tally.specs.declared.tally.Tally.{Tally}
-use Rattle.tallies.specs.Memory.{fitAt}
-use Rattle.tallies.proofs.Parts.{lies-there}
+use Rattle.lists.specs.Counts.{addUp}
+use Rattle.part.specs.Part.{Part}
+use Rattle.part.proofs.Laws.{fit-part}
+use Rattle.tallies.specs.Memory.{fitAt, partAt}
+use Rattle.tallies.proofs.Parts.{lies-there, held-fit}
 use Rattle.spread.specs.Figures.{reportFit}
 use Rattle.sheet.specs.Sheet.{sheetOf}
 use Rattle.sheet.specs.Report.{printed, reportOn}
 use Rattle.sheet.proofs.Lists.{apart-holds}
 use Rattle.sheet.proofs.Printed.{prints}
 use Rattle.claim.proofs.Done.{isDone, accepted-done}
-use Rattle.claim.proofs.Sheets.{chanceOf, beside, Page, Goes, sheet-tally, page-tally-fit, zero-sheets, back-nothing}
+use Rattle.claim.proofs.Sheets.{chanceOf, beside, aimsOf, Page, Goes, sheet-part, zero-sheets, back-nothing}
 use Rattle.claim.proofs.Events.{Given, accepted-goes}
 
 -- ---- the settings records stay fit
 
-pub record Records (ss : List Settings) : Type 0 where
+pub record Records (ss : List Settings) (g : ℕ → ℤ) : Type 0 where
   pub count : length ss ≡ settingsLength
   pub fit : (k : ℕ) → k ≤ 99 → recordFit (getD ss k blank) ≡ true
+  -- the book's target of each code is its record's
+  pub targets : (k : ℕ) → k ≤ 99 → g k ≡ getD ss k blank .target
 
 -- one record anew
-record-stored : (ss : List Settings) (c : ℕ) (s : Settings) → Records ss → c ≤ 99 → recordFit s ≡ true → Records (set ss c s)
-record-stored ss c s r low ok =
+record-stored : (ss : List Settings) (g : ℕ → ℤ) (c : ℕ) (s : Settings) → Records ss g → c ≤ 99 → recordFit s ≡ true → Records (set ss c s) (aimed g c (s .target))
+record-stored ss g c s r low ok =
     record {
       count = length-set ss c s ∙ r .count;
       fit = λ k h. by-cases (eqb k c)
           (λ y. rw (eqb-true k c y, getD-set-same ss c s blank (omega (arith, r .count))) ok)
           (λ n. rw (getD-set-other ss c k s blank (eqb-false k c n)) (r .fit k h));
+      targets = λ k h. by-cases (eqb k c)
+          (λ y. rw (y, eqb-true k c y, getD-set-same ss c s blank (omega (arith, r .count))) refl)
+          (λ n. rw (n, getD-set-other ss c k s blank (eqb-false k c n)) (r .targets k h));
     }
 
-none-recorded : (ss : List Settings) (x : Effect) (ts : List ℤ) → stored ss (recorded x ts .storing) ≡ ss
+none-recorded : (x : Effect) (target : ℤ) (ts : List ℤ) → recorded x target ts .storing ≡ Nothing
 unfolding recorded noted
-none-recorded ss x ts = if-ind (λ (o : Out). stored ss (o .storing) ≡ ss) (isVerdict (x .outcome)) (noted x ts) (untallied x ts) (λ _. refl) (λ _. refl)
+none-recorded x target ts = if-ind (λ (o : Out). o .storing ≡ Nothing) (isVerdict (x .outcome)) (noted x target ts) (untallied x ts) (λ _. refl) (λ _. refl)
 
-stored-fit : (l : Line) (a : Settings) (ts : List ℤ) (ss : List Settings) (e : Event) → Records ss → eventRanged e ≡ true → eventAgrees e ≡ true → Records (stored ss (accepted l a ts e .storing))
+stored-fit : (l : Line) (a : Settings) (ts : List ℤ) (ss : List Settings) (g : ℕ → ℤ) (e : Event) → Records ss g → eventRanged e ≡ true → eventAgrees e ≡ true
+    → Records (stored ss (accepted l a ts e .storing)) (aimsOf g (accepted l a ts e .storing))
 unfolding accepted eventRanged eventAgrees
-stored-fit l a ts ss (Sample s) r h k = rw (none-recorded ss (sampled l a s) ts) r
-stored-fit l a ts ss Run r h k = r
-stored-fit l a ts ss Stop r h k = r
-stored-fit l a ts ss Emergency r h k = r
-stored-fit l a ts ss (Recall c) r h k = r
-stored-fit l a ts ss Cancel r h k = r
-stored-fit l a ts ss (ClearCode c) r h k = r
-stored-fit l a ts ss ClearAll r h k = r
-stored-fit l a ts ss ErrorReset r h k = r
-stored-fit l a ts ss NoOperation r h k = r
-stored-fit l a ts ss (Setup s) r h k = r
-stored-fit l a ts ss (Store c s) r h k =
+stored-fit l a ts ss g (Sample s) r h k = rw (none-recorded (sampled l a s) (a .target) ts) r
+stored-fit l a ts ss g Run r h k = r
+stored-fit l a ts ss g Stop r h k = r
+stored-fit l a ts ss g Emergency r h k = r
+stored-fit l a ts ss g (Recall c) r h k = r
+stored-fit l a ts ss g Cancel r h k = r
+stored-fit l a ts ss g (ClearCode c) r h k = r
+stored-fit l a ts ss g ClearAll r h k = r
+stored-fit l a ts ss g ErrorReset r h k = r
+stored-fit l a ts ss g NoOperation r h k = r
+stored-fit l a ts ss g (Setup s) r h k = r
+stored-fit l a ts ss g (Store c s) r h k =
     let ranged = both (leb c 99) (recordRanged s) h in
-    record-stored ss c s r (leb-true c 99 (ranged .0)) (and-intro (ranged .1) k)
+    record-stored ss g c s r (leb-true c 99 (ranged .0)) (and-intro (ranged .1) k)
 
 -- ---- one event on a world
 
 pub record Holds (w : World) : Type 0 where
   pub pages : Pages
-  pub book : bookOf (w .history) ≡ beside (w .state .line) pages
+  pub targets : ℕ → ℤ
+  pub book : bookOf (w .history) ≡ beside (w .state .line) pages targets
   pub given : Given (w .state .line) (w .state .tallies) pages
-  pub records : Records (w .state .settings)
+  pub records : Records (w .state .settings) targets
   pub balance : detectedIn (w .history)
       ≡ judgedIn (w .history) + 2 * outcomesIn 7 (w .history) + outcomesIn 9 (w .history) + outcomesIn 10 (w .history) + inHandAfter (w .history)
   pub item : bit (inHand (w .state .line .item)) ≡ inHandAfter (w .history)
 
-refused-goes : (l : Line) (ts : List ℤ) (f : Pages) (e : Event) (n : ℕ) → Given l ts f → Goes l f e (refused l ts n)
+refused-goes : (l : Line) (ts : List ℤ) (f : Pages) (t : ℕ → ℤ) (e : Event) (n : ℕ) → Given l ts f → Goes l f t e (refused l ts n)
 unfolding book.fed talliedBy
-refused-goes l ts f e n g =
+refused-goes l ts f t e n g =
     record {
       pages = f;
       book = refl;
@@ -128,7 +139,7 @@ refused-goes l ts f e n g =
       boxes = moves.still (hand l);
     }
 
-answer-goes : (w : World) (e : Event) (h : Holds w) → Goes (w .state .line) (h .pages) e (outOn (w .state) e)
+answer-goes : (w : World) (e : Event) (h : Holds w) → Goes (w .state .line) (h .pages) (h .targets) e (outOn (w .state) e)
 unfolding stepOf
 answer-goes w e h =
     let l = w .state .line in
@@ -136,11 +147,12 @@ answer-goes w e h =
     let ss = w .state .settings in
     let a = activeOf (w .state) in
     let n = refusalOf l (length ss) a ts e in
-    if-ind (Goes l (h .pages) e) (eqb n 0) _ _
-    (λ z. accepted-goes l a ts (h .pages) e (length ss) (h .given) (accepted-tells l (length ss) a ts e (eqb-true n 0 z)))
-    (λ _. refused-goes l ts (h .pages) e n (h .given))
+    if-ind (Goes l (h .pages) (h .targets) e) (eqb n 0) _ _
+    (λ z. accepted-goes l a ts (h .pages) (h .targets) e (length ss) (h .given) (h .records .targets (l .code) (leb-true (l .code) 99 (h .given .fit .code)))
+    (accepted-tells l (length ss) a ts e (eqb-true n 0 z)))
+    (λ _. refused-goes l ts (h .pages) (h .targets) e n (h .given))
 
-records-after : (w : World) (e : Event) → Holds w → Records (answer w e .state .settings)
+records-after : (w : World) (e : Event) (h : Holds w) → Records (answer w e .state .settings) (aimsOf (h .targets) (outOn (w .state) e .storing))
 unfolding stepOf
 records-after w e h =
     let l = w .state .line in
@@ -148,8 +160,8 @@ records-after w e h =
     let ss = w .state .settings in
     let a = activeOf (w .state) in
     let n = refusalOf l (length ss) a ts e in
-    if-ind (λ (o : Out). Records (stored ss (o .storing))) (eqb n 0) (accepted l a ts e) (refused l ts n)
-    (λ z. let y = accepted-tells l (length ss) a ts e (eqb-true n 0 z) in stored-fit l a ts ss e (h .records) (y .ranged) (y .agrees))
+    if-ind (λ (o : Out). Records (stored ss (o .storing)) (aimsOf (h .targets) (o .storing))) (eqb n 0) (accepted l a ts e) (refused l ts n)
+    (λ z. let y = accepted-tells l (length ss) a ts e (eqb-true n 0 z) in stored-fit l a ts ss (h .targets) e (h .records) (y .ranged) (y .agrees))
     (λ _. h .records)
 
 -- the boxes, with one turn more
@@ -171,6 +183,7 @@ holds-after w e h =
     let i = in-hand-more t (w .history) (hand (w .state .line)) (hand (answer w e .state .line)) (h .item) (level (g .boxes)) in
     record {
       pages = g .pages;
+      targets = aimsOf (h .targets) (outOn (w .state) e .storing);
       book = rw (h .book) (g .book);
       given = record { fit = g .line; sheets = g .sheets; back = g .back };
       records = records-after w e h;
@@ -189,11 +202,12 @@ blank-fit : recordFit blank ≡ true
 unfolding recordRanged limitsOrdered
 blank-fit = refl
 
-fresh-records : Records (replicate settingsLength blank)
+fresh-records : Records (replicate settingsLength blank) (λ _. pos 0)
 fresh-records =
     record {
       count = length-replicate settingsLength blank;
       fit = λ k h. rw (getD-replicate settingsLength k blank blank (omega arith)) blank-fit;
+      targets = λ k h. rw (getD-replicate settingsLength k blank blank (omega arith)) refl;
     }
 
 fresh-holds : Holds freshWorld
@@ -201,6 +215,7 @@ unfolding bookOf sumOver inHandAfter freshLine
 fresh-holds =
     record {
       pages = λ _. [];
+      targets = λ _. pos 0;
       book = refl;
       given = record { fit = fresh-fit; sheets = zero-sheets; back = back-nothing [] };
       records = fresh-records;
@@ -257,19 +272,25 @@ cancel-answer l count a ts h = rw h (by (l .undo))
 
 page-report : (p : List Verdict) → Page p → reportFit (tallyOfPage p) ≡ true
 unfolding reportFit tallyOfPage
-page-report p g = and-intro (page-tally-fit p g) (le-leb _ _ (apart-holds (netsOf p)))
+page-report p g = and-intro (page-fit (g .fine) (g .few)) (le-leb _ _ (apart-holds (netsOf p)))
 
 -- a code's sheet, with these pages
 sheet-printed : (w : World) (h : Holds w) (code : ℕ) → code ≤ 99
-    → reportOn (w .state .settings) (w .state .tallies) code ≡ printed (sheetOf (tallyOfPage (h .pages code)) (getD (w .state .settings) code blank .target))
+    → reportOn (w .state .settings) (w .state .tallies) code ≡ printed (sheetOf (partOfPage (h .pages code)) (getD (w .state .settings) code blank .target))
 sheet-printed w h code low =
     let ss = w .state .settings in
     let ts = w .state .tallies in
     let s = h .given .sheets in
-    let is = sheet-tally ts (h .pages) s code low in
+    let is = sheet-part ts (h .pages) s code low in
     prints (length ss) (getD ss code blank) ts code (h .records .count) (s .len) low (h .records .fit code low) (s .fit code low)
     (rw is (page-report (h .pages code) (s .pages code)))
-    ∙ ap (λ (t : Tally). printed (sheetOf t (getD ss code blank .target))) is
+    ∙ ap (λ (q : Part). printed (sheetOf q (getD ss code blank .target))) is
+
+-- the counts of a fit part add to n
+counts-add-up : (w : World) (h : Holds w) (code : ℕ) → code ≤ 99 → addUp (partAt (w .state .tallies) code .counts) ≡ partAt (w .state .tallies) code .tally .n
+counts-add-up w h code low =
+    let p = partAt (w .state .tallies) code in
+    fit-part p (held-fit (w .state .tallies) code (h .given .sheets .fit code low)) .sum
 
 stands : (w : World) → Holds w → Stands w
 stands w h =
@@ -279,6 +300,7 @@ stands w h =
     let ts = w .state .tallies in
     record {
       tallies = λ code low. rw (h .book) (h .given .sheets .parts code low);
+      classes = λ code low. counts-add-up w h code low;
       balance = h .balance;
       item = h .item;
       tallied = λ e. rw (h .book) (answer-goes w e h .tallied);

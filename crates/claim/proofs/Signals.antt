@@ -69,18 +69,18 @@ record Shows (x : Effect) (o : Out) : Type 0 where
   outcome : outcomeOf (o .reply) ≡ x .outcome
   accepted : refusalIn (o .reply) ≡ 0
 
-recorded-shows : (x : Effect) (ts : List ℤ) → Shows x (recorded x ts)
+recorded-shows : (x : Effect) (target : ℤ) (ts : List ℤ) → Shows x (recorded x target ts)
 unfolding recorded noted replied
-recorded-shows x ts =
-    if-ind (Shows x) (isVerdict (x .outcome)) (noted x ts) (untallied x ts)
+recorded-shows x target ts =
+    if-ind (Shows x) (isVerdict (x .outcome)) (noted x target ts) (untallied x ts)
     (λ _. record { foreign = refl; outcome = refl; accepted = refl })
     (λ _. record { foreign = refl; outcome = refl; accepted = refl })
 
-sample-kept : (l : Line) (a : Settings) (ts : List ℤ) (s : sample.Sample) → isTime (l .setup .tf) ≡ true → s .emergency ≤ 1 → Kept l (Sample s) (recorded (sampled l a s) ts)
+sample-kept : (l : Line) (a : Settings) (ts : List ℤ) (s : sample.Sample) → isTime (l .setup .tf) ≡ true → s .emergency ≤ 1 → Kept l (Sample s) (recorded (sampled l a s) (a .target) ts)
 unfolding isRunningTick takenBy usedUpBy endedAt step1
 sample-kept l a ts s time low =
-    let o = recorded (sampled l a s) ts in
-    let shows = recorded-shows (sampled l a s) ts in
+    let o = recorded (sampled l a s) (a .target) ts in
+    let shows = recorded-shows (sampled l a s) (a .target) ts in
     let is : isRunningTick l (Sample s) (o .reply) ≡ ticks l s = rw (shows .accepted) refl in
     by-cases (ticks l s)
     (λ t. let told : sampled l a s ≡ runningTick (step1 l s) (tickOf l a s) = tick-told l a s t in

@@ -136,10 +136,10 @@ record Shows (x : Effect) (o : Out) : Type 0 where
   outcome : outcomeOf (o .reply) ≡ x .outcome
   accepted : refusalIn (o .reply) ≡ 0
 
-recorded-shows : (x : Effect) (ts : List ℤ) → Shows x (recorded x ts)
+recorded-shows : (x : Effect) (target : ℤ) (ts : List ℤ) → Shows x (recorded x target ts)
 unfolding recorded noted replied
-recorded-shows x ts =
-    if-ind (Shows x) (isVerdict (x .outcome)) (noted x ts) (untallied x ts)
+recorded-shows x target ts =
+    if-ind (Shows x) (isVerdict (x .outcome)) (noted x target ts) (untallied x ts)
     (λ _. record { sorters = refl; status = refl; outcome = refl; accepted = refl })
     (λ _. record { sorters = refl; status = refl; outcome = refl; accepted = refl })
 
@@ -147,12 +147,12 @@ carry : (l m k : Line) → k .sorters ≡ m .sorters → k .status ≡ m .status
 carry l m k s e (stays p q) = stays (s ∙ p) (λ h. q (rw e at h))
 carry l m k s e (rests p q) = rests (s ∙ p) (rw e q)
 
-sample-moves : (l : Line) (a : Settings) (ts : List ℤ) (s : sample.Sample) → s .emergency ≤ 1 → Moved l (Sample s) (recorded (sampled l a s) ts)
+sample-moves : (l : Line) (a : Settings) (ts : List ℤ) (s : sample.Sample) → s .emergency ≤ 1 → Moved l (Sample s) (recorded (sampled l a s) (a .target) ts)
 unfolding isRunningTick step1
 sample-moves l a ts s low =
     let x = sampled l a s in
-    let o = recorded x ts in
-    let shows = recorded-shows x ts in
+    let o = recorded x (a .target) ts in
+    let shows = recorded-shows x (a .target) ts in
     let is : isRunningTick l (Sample s) (o .reply) ≡ ticks l s = rw (shows .accepted) refl in
     record {
       tick = λ h.

@@ -8,7 +8,8 @@ use Rattle.laws.specs.Choice.{if_then_else_, bit}
 use Rattle.settings.specs.Settings.{lastCode, blank}
 use Rattle.event.specs.declared.Event.{Event}
 use Rattle.event.specs.declared.Event.the-variants.{Cancel}
-use Rattle.tallies.specs.Memory.{numbers, part}
+use Rattle.lists.specs.Counts.{addUp}
+use Rattle.tallies.specs.Memory.{partNumbers, part, partAt}
 use Rattle.sheet.specs.Sheet.{sheetOf}
 use Rattle.sheet.specs.Report.{printed, reportOn}
 use Rattle.item.specs.Item.{inHand}
@@ -16,7 +17,7 @@ use Rattle.refusal.specs.Table.{memoryNo, nothingNo}
 use Rattle.event.specs.declared.reply.Reply.{Reply}
 use Rattle.event.specs.declared.reply.Reply.the-variants.{Refused, Done}
 use Rattle.book.specs.Book.{talliedBy, bookOf}
-use Rattle.book.specs.Page.{tallyOfPage}
+use Rattle.book.specs.Page.{partOfPage}
 use Rattle.claim.specs.Run.{World, run, answer}
 use Rattle.book.specs.Boxes.{detectedIn, judgedIn, outcomesIn, inHandAfter}
 
@@ -31,8 +32,11 @@ talliedIn (Done d) = d .tallied
 
 -- what holds after a list of events, and of the reply to any next one
 pub record Stands (w : World) : Type 0 where
-  -- "What is on a page stands under its code": each code's tally is that of its page, the very numbers of its part
-  pub tallies : (code : ℕ) → code ≤ lastCode → part (w .state .tallies) code ≡ numbers (tallyOfPage (bookOf (w .history) .pages code))
+  -- "What is on a page stands under its code": each code's tally is that of its page, the very numbers of its part; T-05:
+  -- "each count is that of the standing graded verdicts in its class"
+  pub tallies : (code : ℕ) → code ≤ lastCode → part (w .state .tallies) code ≡ partNumbers (partOfPage (bookOf (w .history) .pages code))
+  -- "The 21 counts add to n after every list of demand 3"
+  pub classes : (code : ℕ) → code ≤ lastCode → addUp (partAt (w .state .tallies) code .counts) ≡ partAt (w .state .tallies) code .tally .n
   -- "For demand 3, over the replies": detected = judged + two-on + dismissed + abandoned + in hand
   pub balance :
       detectedIn (w .history)
@@ -46,7 +50,7 @@ pub record Stands (w : World) : Type 0 where
   -- each code's sheet is printed, with the figures of the verdicts standing under it in the book
   pub sheets : (code : ℕ) → code ≤ lastCode
       → reportOn (w .state .settings) (w .state .tallies) code
-      ≡ printed (sheetOf (tallyOfPage (bookOf (w .history) .pages code)) (getD (w .state .settings) code blank .target))
+      ≡ printed (sheetOf (partOfPage (bookOf (w .history) .pages code)) (getD (w .state .settings) code blank .target))
   -- no event of a list is ever refused 8
   pub sound : (e : Event) → refusalIn (answer w e .reply) ≢ memoryNo
 

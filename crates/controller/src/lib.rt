@@ -1,11 +1,11 @@
 // The controller of a belt checkweigher.
 //
 // A `Line` is the belt's state: an event takes it by value and hands back the next one. The caller owns two memories and
-// lends them to each call: the settings, a hundred records, one for each code, and the tallies, 1,300 numbers, thirteen for
-// each code. Fresh memory is all zeros.
+// lends them to each call: the settings, a hundred records, one for each code, and the tallies, 3,400 numbers, 34 for
+// each code: its tally and its 21 class counts. Fresh memory is all zeros.
 //
 //     let mut records = [Settings::blank(); 100];
-//     let mut tallies = [0i64; 1300];
+//     let mut tallies = [0i64; 3400];
 //     let line = Line::fresh();
 //
 // `Line::apply` is one event: a sample of the sensors every 10 ms, a command, a setup or a store.

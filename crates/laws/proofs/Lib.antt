@@ -1,2 +1,3 @@
 pub mod Tests
 pub mod Signed
+pub mod Shift

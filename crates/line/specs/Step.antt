@@ -28,7 +28,7 @@ storing l ts c s = record { line = l; storing = Record c s; tallies = ts; reply 
 
 -- an accepted event; a is the active code's record
 unfoldable pub accepted : Line → Settings → List ℤ → Event → Out
-accepted l a ts (Sample s) = recorded (sampled l a s) ts
+accepted l a ts (Sample s) = recorded (sampled l a s) (a .target) ts
 accepted l a ts Run = untallied (ran l) ts
 accepted l a ts Stop = untallied (stopping l) ts
 accepted l a ts Emergency = untallied (alarmed l) ts

@@ -5,7 +5,8 @@ use lib.Dec.{eqb}
 use lib.IntN.{ℤ}
 use lib.ListN.{length}
 use Rattle.laws.specs.Choice.{if_then_else_}
-use Rattle.tally.specs.Tally.{emptyTally, isVerdict}
+use Rattle.tally.specs.Tally.{isVerdict}
+use Rattle.part.specs.Part.{emptyPart}
 use Rattle.tallies.specs.Memory.{written, zeros}
 use Rattle.event.specs.declared.reply.Reply.{Reply}
 use Rattle.undo.specs.Undo.{nothing, keptOf, notedIn, putBack}
@@ -32,20 +33,20 @@ stepIn o = record { line = o .line; reply = o .reply; storing = o .storing }
 abbrev pub untallied : Effect → List ℤ → Out
 untallied e ts = record { line = e .line; storing = Nothing; tallies = ts; reply = replied e 0 }
 
--- a verdict is tallied under the active code, and the tally as before it is kept; where it is given but not tallied, there is nothing to cancel
-unfoldable pub noted : Effect → List ℤ → Out
-noted e ts =
-    let u = keptOf ts (e .line .code) (e .outcome) (e .net) in
+-- a verdict is tallied under the active code, with the target of its settings, and what stood there before it is kept; where it is given but not tallied, there is nothing to cancel
+unfoldable pub noted : Effect → ℤ → List ℤ → Out
+noted e target ts =
+    let u = keptOf ts (e .line .code) (e .outcome) (e .net) target in
     record {
       line = withUndo (e .line) u;
       storing = Nothing;
-      tallies = notedIn ts (e .line .code) (e .outcome) (e .net);
+      tallies = notedIn ts (e .line .code) (e .outcome) (e .net) target;
       reply = replied e (u .chance);
     }
 
 -- "Active code and settings are those at the verdict."
-unfoldable pub recorded : Effect → List ℤ → Out
-recorded e ts = if isVerdict (e .outcome) then noted e ts else untallied e ts
+unfoldable pub recorded : Effect → ℤ → List ℤ → Out
+recorded e target ts = if isVerdict (e .outcome) then noted e target ts else untallied e ts
 
 -- "Cancel puts back the active code's tally as before the last verdict."
 abbrev pub cancelled : Line → List ℤ → Out
@@ -60,7 +61,7 @@ unfoldable pub codeCleared : Line → ℕ → Line
 codeCleared l c = if eqb c (l .code) then withUndo l nothing else l
 
 abbrev pub clearedOne : Line → List ℤ → ℕ → Out
-clearedOne l ts c = untallied (plain (codeCleared l c)) (written ts c emptyTally)
+clearedOne l ts c = untallied (plain (codeCleared l c)) (written ts c emptyPart)
 
 abbrev pub clearedAll : Line → List ℤ → Out
 clearedAll l ts = untallied (plain (withUndo l nothing)) (zeros (length ts))

@@ -23,6 +23,7 @@ use event::Event;
 use event::Reply;
 use event::Sample;
 use event::Setup;
+use part::Classes;
 use settings::Settings;
 use tally::Tally;
 use undo::Undo;
@@ -88,10 +89,10 @@ impl Line {
 impl Line {
     fn sample(self, active: Settings, tallies: &mut [i64], s: Sample) -> Step
         requires { ⌜ (lineFit self ≡ true) × (recordFit active ≡ true) × (sampleRanged s ≡ true) ⌝ }
-        ensures answer { λ r. ⌜ r ≡ stepIn (recorded (sampled self active s) (now (tallies .entry))) ⌝ }
-        ensures memory { λ r. ⌜ now (tallies .exit) ≡ recorded (sampled self active s) (now (tallies .entry)) .tallies ⌝ }
+        ensures answer { λ r. ⌜ r ≡ stepIn (recorded (sampled self active s) (active .target) (now (tallies .entry))) ⌝ }
+        ensures memory { λ r. ⌜ now (tallies .exit) ≡ recorded (sampled self active s) (active .target) (now (tallies .entry)) .tallies ⌝ }
     {
-        self.sampled(active, s).recorded(tallies)
+        self.sampled(active, s).recorded(active.target, tallies)
     }
 
     fn cancel(self, tallies: &mut [i64]) -> Step
@@ -117,7 +118,7 @@ impl Line {
         ensures answer { λ r. ⌜ r ≡ stepIn (clearedOne self (now (tallies .entry)) code) ⌝ }
         ensures memory { λ r. ⌜ now (tallies .exit) ≡ clearedOne self (now (tallies .entry)) code .tallies ⌝ }
     {
-        tallies::write(tallies, code, Tally::empty());
+        tallies::write(tallies, code, Tally::empty(), Classes::none());
         Effect::plain(self.code_cleared(code)).untallied()
     }
 

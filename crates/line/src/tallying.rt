@@ -20,13 +20,14 @@ impl Effect {
         }
     }
 
-    // A verdict is tallied under the active code, which keeps the tally as before it; a full tally leaves nothing to cancel.
-    fn noted(self, tallies: &mut [i64]) -> Step
-        ensures answer { λ r. ⌜ r ≡ stepIn (noted self (now (tallies .entry))) ⌝ }
-        ensures memory { λ r. ⌜ now (tallies .exit) ≡ noted self (now (tallies .entry)) .tallies ⌝ }
+    // A verdict is tallied under the active code, whose target goes with it; the tally as before it is kept, and a full one
+    // leaves nothing to cancel.
+    fn noted(self, target: i64, tallies: &mut [i64]) -> Step
+        ensures answer { λ r. ⌜ r ≡ stepIn (noted self target (now (tallies .entry))) ⌝ }
+        ensures memory { λ r. ⌜ now (tallies .exit) ≡ noted self target (now (tallies .entry)) .tallies ⌝ }
     {
         let line = self.line;
-        let undo = undo::note(tallies, line.code, self.outcome, self.net);
+        let undo = undo::note(tallies, line.code, self.outcome, self.net, target);
         let next = line.with_undo(undo);
         let reply = self.replied(undo.chance);
         Step {
@@ -37,12 +38,12 @@ impl Effect {
     }
 
     // The verdict of this effect, if there is one, is noted.
-    pub(crate) fn recorded(self, tallies: &mut [i64]) -> Step
-        ensures answer { λ r. ⌜ r ≡ stepIn (recorded self (now (tallies .entry))) ⌝ }
-        ensures memory { λ r. ⌜ now (tallies .exit) ≡ recorded self (now (tallies .entry)) .tallies ⌝ }
+    pub(crate) fn recorded(self, target: i64, tallies: &mut [i64]) -> Step
+        ensures answer { λ r. ⌜ r ≡ stepIn (recorded self target (now (tallies .entry))) ⌝ }
+        ensures memory { λ r. ⌜ now (tallies .exit) ≡ recorded self target (now (tallies .entry)) .tallies ⌝ }
     {
         if (1 <= self.outcome) & (self.outcome <= 8) {
-            return self.noted(tallies);
+            return self.noted(target, tallies);
         }
         self.untallied()
     }

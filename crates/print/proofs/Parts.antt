@@ -31,7 +31,7 @@ wrote-joined between f fs w run h = wrote-in h (wrote-then w (wrote-run run))
 
 -- parts of fields
 module _ (between : List ℕ) where
-  ahead-then : (fs gs : List (List ℕ)) → ahead between (fs ++ gs) ≡ ahead between fs ++ ahead between gs
+  pub ahead-then : (fs gs : List (List ℕ)) → ahead between (fs ++ gs) ≡ ahead between fs ++ ahead between gs
   ahead-then [] gs = refl
   ahead-then (f ∷ fs) gs = ap (λ (l : List ℕ). between ++ (f ++ l)) (ahead-then fs gs) ∙ simp append-assoc
 
@@ -39,9 +39,9 @@ module _ (between : List ℕ) where
   two-parts [] gs e h = absurd (omega arith)
   two-parts (f ∷ fs) gs e h = rw (ahead-then fs gs) (simp append-assoc)
 
-  pub five-parts : (fs gs hs is js : List (List ℕ)) (e : List ℕ) → 0 < length fs
-      → joined between fs ++ (ahead between gs ++ (ahead between hs ++ (ahead between is ++ (ahead between js ++ e))))
-      ≡ joined between (fs ++ (gs ++ (hs ++ (is ++ js)))) ++ e
-  five-parts fs gs hs is js e h =
-      sym (sym (two-parts fs (gs ++ (hs ++ (is ++ js))) e h)
-      ∙ rw (ahead-then gs (hs ++ (is ++ js)), ahead-then hs (is ++ js), ahead-then is js) (simp append-assoc))
+  pub six-parts : (fs gs hs is js ks : List (List ℕ)) (e : List ℕ) → 0 < length fs
+      → joined between fs ++ (ahead between gs ++ (ahead between hs ++ (ahead between is ++ (ahead between js ++ (ahead between ks ++ e)))))
+      ≡ joined between (fs ++ (gs ++ (hs ++ (is ++ (js ++ ks))))) ++ e
+  six-parts fs gs hs is js ks e h =
+      sym (sym (two-parts fs (gs ++ (hs ++ (is ++ (js ++ ks)))) e h)
+      ∙ rw (ahead-then gs (hs ++ (is ++ (js ++ ks))), ahead-then hs (is ++ (js ++ ks)), ahead-then is (js ++ ks), ahead-then js ks) (simp append-assoc))

@@ -4,7 +4,7 @@ use mathlib.Core.Path.{_≡_, refl, sym, ap, subst, _∙_}
 use mathlib.Core.List.{List, [], _∷_, _++_, append-assoc, append-nil}
 use native.Mathlib.Omega.{arith}
 use native.Mathlib.Numerals.{add-one}
-use lib.ListN.{length, take, drop, set, length-append, length-drop}
+use lib.ListN.{length, take, drop, set, length-append, length-drop, take-append-drop}
 use lib.Seq.{length-take-le, take-length, take-at, drop-at, drop-drop, set-split, take-set-le, paste}
 use borrow.Author.Tests.{le-leb, lt-leb}
 use Rattle.print.specs.Written.{bufferAfter, lengthWritten}
@@ -61,6 +61,13 @@ put-front b s = let e : 0 + length s ≡ length s = omega arith in rw e
 
 pub wrote-byte : (b : List ℕ) (at x : ℕ) → at < length b → Wrote b at (x ∷ []) 1 (set b at x) (at + 1)
 wrote-byte b at x h = record { bytes = put-one b at x h; place = refl; fits = omega arith; short = omega arith }
+
+-- nothing yet
+pub wrote-none : (b : List ℕ) (at : ℕ) → at ≤ length b → Wrote b at [] 0 b at
+unfolding withTextAt
+wrote-none b at h =
+    let e : at + 0 ≡ at = omega arith in
+    record { bytes = rw e (sym (take-append-drop at b)); place = sym e; fits = omega arith; short = omega arith }
 
 -- two texts, one behind the other
 pub wrote-then : {b b′ b″ : List ℕ} {at r q m n : ℕ} {s t : List ℕ} → Wrote b at s m b′ r → Wrote b′ r t n b″ q → Wrote b at (s ++ t) (m + n) b″ q

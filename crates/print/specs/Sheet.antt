@@ -1,5 +1,5 @@
 -- 01, "Text lines": a sheet, "one field a line".
-use Prim.Native.Nat.{ℕ, _/_, _%_}
+use Prim.Native.Nat.{ℕ, _+_, _/_, _%_}
 use mathlib.Core.List.{List, [], _∷_, _++_}
 use Rattle.weight.specs.declared.Figure.{Figure}
 use Rattle.weight.specs.declared.Figure.the-variants.{None, Of}
@@ -49,9 +49,19 @@ weightFigures s =
 abbrev pub spreads : Sheet → List (List ℕ)
 spreads s = field "sd" (spreadText (s .sd)) ∷ field "sdp" (spreadText (s .sdp)) ∷ []
 
+-- T-05: "21 lines class0 to class20"
+abbrev pub classField : ℕ → ℕ → List ℕ
+classField k n = bytes "class" ++ (decimal k ++ (bytes "=" ++ decimal n))
+
+-- the counts of class k and those behind it
+unfoldable pub classesFrom : ℕ → List ℕ → List (List ℕ)
+classesFrom k [] = []
+classesFrom k (n ∷ ns) = classField k n ∷ classesFrom (k + 1) ns
+
 unfoldable pub sheetText : ℕ → Sheet → List ℕ
-sheetText code s = joined lineEnd (totals code s ++ (grades s ++ (faults s ++ (weightFigures s ++ spreads s)))) ++ lineEnd
+sheetText code s =
+    joined lineEnd (totals code s ++ (grades s ++ (faults s ++ (weightFigures s ++ (spreads s ++ classesFrom 0 (s .classes)))))) ++ lineEnd
 
 -- a buffer of at least so many bytes has room for it
 abbrev pub sheetRoom : ℕ
-sheetRoom = 1024
+sheetRoom = 2048

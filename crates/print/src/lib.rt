@@ -12,5 +12,5 @@ pub use report::sheet_lines;
 
 // The room that the line of a reply is written to; none has more than 252 bytes.
 pub const REPLY_ROOM: usize = 256;
-// The room that a sheet is written to; none has more than 468 bytes.
-pub const SHEET_ROOM: usize = 1024;
+// The room that a sheet is written to; none has more than 1,077 bytes.
+pub const SHEET_ROOM: usize = 2048;

@@ -1,9 +1,11 @@
-// The eighteen lines of a code's sheet.
+// The lines of a code's sheet.
 ghost use mathlib.Core.Path.{_≡_};
+ghost use mathlib.Core.List.{_++_};
 ghost use Prim.Native.Nat.{_+_, _≤_};
 ghost use lib.ListN.{length};
+ghost use Rattle.part.specs.Class.{lastClass};
 ghost use Rattle.print.specs.Text.{lineEnd, ahead, joined};
-ghost use Rattle.print.specs.Sheet.{totals, grades, faults, weightFigures, spreads, sheetText, sheetRoom};
+ghost use Rattle.print.specs.Sheet.{totals, grades, faults, weightFigures, spreads, classField, classesFrom, sheetText, sheetRoom};
 ghost use Rattle.print.specs.Written.{bufferAfter, lengthWritten};
 ghost use Rattle.print.specs.Steps.{Wrote};
 use crate::SHEET_ROOM;
@@ -12,9 +14,10 @@ use crate::field::put_count;
 use crate::field::put_figure;
 use crate::field::put_number;
 use crate::field::put_spread;
+use part::CLASSES;
 use sheet::Sheet;
 
-// The sheet of a code as eighteen lines at the front of `out`, and their length. A buffer of less than its room is left as it
+// The sheet of a code as 39 lines at the front of `out`, and their length. A buffer of less than its room is left as it
 // is, and the answer is 0.
 pub fn sheet_lines(out: &mut [u8], code: u64, s: Sheet) -> usize
     ensures { λ n. ⌜ n ≡ lengthWritten sheetRoom (sheetText code s) (now (out .entry)) ⌝ }
@@ -28,7 +31,9 @@ pub fn sheet_lines(out: &mut [u8], code: u64, s: Sheet) -> usize
     let c = put_faults(out, b, s);
     let d = put_weights(out, c, s);
     let e = put_spreads(out, d, s);
-    put(out, e, b"\n")
+    let classes = s.classes;
+    let f = put_classes(out, e, classes);
+    put(out, f, b"\n")
 }
 
 fn put_totals(out: &mut [u8], code: u64, s: Sheet) -> usize
@@ -83,4 +88,27 @@ fn put_spreads(out: &mut [u8], at: usize, s: Sheet) -> usize
     let sdp = s.sdp;
     let a = put_spread(out, at, b"\nsd=", sd);
     put_spread(out, a, b"\nsdp=", sdp)
+}
+
+// Class 0 to class 20, each in a line of its own.
+fn put_classes(out: &mut [u8], at: usize, classes: [u64; CLASSES]) -> usize
+    requires { ⌜ at + 609 ≤ length (now out) ⌝ }
+    ensures { λ r. ⌜ Wrote (now (out .entry)) at (ahead lineEnd (classesFrom 0 classes)) 609 (now (out .exit)) r ⌝ }
+{
+    let mut end = at;
+    let mut k = 0;
+    while k < CLASSES {
+        let n = classes[k];
+        end = put_class(&mut *out, end, k as u64, n);
+        k += 1;
+    }
+    end
+}
+
+fn put_class(out: &mut [u8], at: usize, k: u64, n: u64) -> usize
+    requires { ⌜ (at + 29 ≤ length (now out)) × (k ≤ lastClass) ⌝ }
+    ensures { λ r. ⌜ Wrote (now (out .entry)) at (lineEnd ++ classField k n) 29 (now (out .exit)) r ⌝ }
+{
+    let number = put_count(out, at, b"\nclass", k);
+    put_count(out, number, b"=", n)
 }

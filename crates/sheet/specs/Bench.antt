@@ -6,8 +6,7 @@ use Rattle.weight.specs.Mean.{rounded}
 use Rattle.settings.specs.Grade.{gradeOf}
 use Rattle.settings.specs.declared.Settings.{Settings}
 use Rattle.spread.specs.declared.Spread.the-variants.{Of}
-use Rattle.tally.specs.Tally.{emptyTally, added}
-use Rattle.tally.specs.declared.tally.Tally.{Tally}
+use Rattle.part.specs.Part.{Part, emptyPart, addedPart}
 use Rattle.sheet.specs.Sheet.{sheetOf}
 
 -- the record of the text's example
@@ -18,10 +17,10 @@ example =
 abbrev pub nets : List ℤ
 nets = pos 899 ∷ pos 900 ∷ pos 989 ∷ pos 990 ∷ pos 1010 ∷ pos 1011 ∷ pos 1100 ∷ pos 1101 ∷ []
 
--- the tally of graded verdicts with these nets
-unfoldable pub tallied : List ℤ → Tally
-tallied [] = emptyTally
-tallied (x ∷ xs) = added (tallied xs) (gradeOf example x) x
+-- the part of graded verdicts with these nets
+unfoldable pub tallied : List ℤ → Part
+tallied [] = emptyPart
+tallied (x ∷ xs) = addedPart (tallied xs) (gradeOf example x) x (example .target)
 
 abbrev pub weights : List ℤ
 weights = pos 1 ∷ pos 2 ∷ pos 4 ∷ []

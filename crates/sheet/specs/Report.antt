@@ -21,7 +21,7 @@ use Rattle.sheet.specs.declared.answer.Report.{Report}
 unfoldable pub memoryWrong : ℕ → Settings → List ℤ → ℕ → Bool
 memoryWrong count r ts code =
     lengthsWrong count ts
-    || (isCode code && (not (recordFit r) || not (fitAt ts code) || not (reportFit (readAt ts code))))
+    || (isCode code && (not (recordFit r) || not (fitAt ts code) || not (reportFit (readAt ts code .tally))))
 
 -- which conditions of the table hold: no. 1 is other text's, 3 to 7 are an event's
 abbrev pub reportFaults : ℕ → Settings → List ℤ → ℕ → Faults

@@ -59,6 +59,6 @@ pub(crate) fn report_on(count: u64, own: Settings, tallies: &[i64], code: u64) -
     Report {
         number: 0,
         input: 0,
-        sheet: sheet_of(t, own.target),
+        sheet: sheet_of(t, tallies::classes(tallies, code), own.target),
     }
 }

@@ -5,8 +5,11 @@ ghost use Prim.Native.Nat.{_≤_};
 ghost use Rattle.weight.specs.Weight.{isWeight};
 ghost use Rattle.tally.specs.Tally.{tallyLimit, total};
 ghost use Rattle.spread.specs.Figures.{reportFit};
+ghost use Rattle.tallies.specs.Memory.{held};
 ghost use Rattle.sheet.specs.Sheet.{unlessNone, sheetOf, blankSheet};
 ghost use Rattle.sheet.specs.Steps.{weightOrNone, lessTarget};
+use part::CLASSES;
+use part::Classes;
 use spread::Spread;
 use tally::Tally;
 use weight::Figure;
@@ -30,6 +33,8 @@ pub struct Sheet {
     pub deviation: Figure,
     pub sd: Spread,
     pub sdp: Spread,
+    // the counts of classes 0 to 20
+    pub classes: [u64; CLASSES],
 }
 
 impl Sheet {
@@ -55,13 +60,14 @@ impl Sheet {
             deviation: Figure::None,
             sd: Spread::None,
             sdp: Spread::None,
+            classes: [0u64; CLASSES],
         }
     }
 }
 
-pub(crate) fn sheet_of(t: Tally, target: i64) -> Sheet
+pub(crate) fn sheet_of(t: Tally, c: Classes, target: i64) -> Sheet
     requires { ⌜ (reportFit t ≡ true) × (isWeight target ≡ true) ⌝ }
-    ensures { λ r. ⌜ r ≡ sheetOf t target ⌝ }
+    ensures { λ r. ⌜ r ≡ sheetOf (held t c) target ⌝ }
 {
     let total = total_of(t);
     let mean = mean_of(t.sum, t.n);
@@ -83,6 +89,7 @@ pub(crate) fn sheet_of(t: Tally, target: i64) -> Sheet
         deviation: deviation_of(mean, target),
         sd: spread::sd(t),
         sdp: spread::sdp(t),
+        classes: c.listed(),
     }
 }
 

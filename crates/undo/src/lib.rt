@@ -1,13 +1,16 @@
 // What a cancel puts back, and how a verdict and its cancel change the lent tallies.
 ghost use mathlib.Core.Path.{_≡_};
-ghost use Rattle.undo.specs.Undo.{nothing, kept, noChance, undoFit, keptOf, notedIn, putBack};
+ghost use Rattle.undo.specs.Undo.{nothing, keptAs, noChance, undoFit, keptOf, notedIn, putBack};
+use part::Classes;
 use tally::Tally;
+use weight::is_weight;
 
-// The chance to cancel: 1 with a code's tally as before the last verdict, or 0. A number, not a bool or an enum: what the
-// compiler copies behind those costs time on every line of text.
+// The chance to cancel: 1 with a code's tally and class counts as before the last verdict, or 0. A number, not a bool or an
+// enum: what the compiler copies behind those costs time on every line of text.
 pub struct Undo {
     pub chance: u64,
     pub tally: Tally,
+    pub classes: Classes,
 }
 
 impl Undo {
@@ -17,15 +20,17 @@ impl Undo {
         Undo {
             chance: 0,
             tally: Tally::empty(),
+            classes: Classes::none(),
         }
     }
 
-    fn kept(t: Tally) -> Undo
-        ensures { λ r. ⌜ r ≡ kept t ⌝ }
+    fn kept(t: Tally, c: Classes) -> Undo
+        ensures { λ r. ⌜ r ≡ keptAs t c ⌝ }
     {
         Undo {
             chance: 1,
             tally: t,
+            classes: c,
         }
     }
 
@@ -42,10 +47,11 @@ impl Undo {
             return true;
         }
         let t = self.tally;
-        t.fit()
+        let classes = self.classes;
+        t.fit() & (classes.total() == t.n)
     }
 
-    // A cancel: the kept tally goes back to code's part.
+    // A cancel: the kept tally and class counts go back to code's part.
     pub fn put_back(self, tallies: &mut [i64], code: u64)
         ensures { λ _. ⌜ now (tallies .exit) ≡ putBack (now (tallies .entry)) code self ⌝ }
     {
@@ -53,17 +59,18 @@ impl Undo {
             return;
         }
         let t = self.tally;
-        tallies::write(tallies, code, t);
+        let classes = self.classes;
+        tallies::write(tallies, code, t, classes);
     }
 }
 
-// A verdict is tallied under a code, and the tally as before it is kept. Where there is no room, or what comes in is
-// unfit, nothing changes and nothing is kept.
-pub fn note(tallies: &mut [i64], code: u64, verdict: u64, net: i64) -> Undo
-    ensures kept { λ r. ⌜ r ≡ keptOf (now (tallies .entry)) code verdict net ⌝ }
-    ensures memory { λ r. ⌜ now (tallies .exit) ≡ notedIn (now (tallies .entry)) code verdict net ⌝ }
+// A verdict is tallied under a code, and what stood there before it is kept. Where there is no room, or what comes in is
+// unfit, nothing changes and nothing is kept. Net, and the code's target at the verdict, are in divisions.
+pub fn note(tallies: &mut [i64], code: u64, verdict: u64, net: i64, target: i64) -> Undo
+    ensures kept { λ r. ⌜ r ≡ keptOf (now (tallies .entry)) code verdict net target ⌝ }
+    ensures memory { λ r. ⌜ now (tallies .exit) ≡ notedIn (now (tallies .entry)) code verdict net target ⌝ }
 {
-    if !tallies::fit_at(&*tallies, code) {
+    if !(tallies::fit_at(&*tallies, code) & is_weight(target)) {
         return Undo::nothing();
     }
     let before = tallies::read(&*tallies, code);
@@ -71,7 +78,8 @@ pub fn note(tallies: &mut [i64], code: u64, verdict: u64, net: i64) -> Undo
     if noted.taken == 0 {
         return Undo::nothing();
     }
+    let classes = tallies::classes(&*tallies, code);
     let next = noted.tally;
-    tallies::write(tallies, code, next);
-    Undo::kept(before)
+    tallies::write(tallies, code, next, classes.with(verdict, net, target));
+    Undo::kept(before, classes)
 }

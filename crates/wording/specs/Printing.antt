@@ -1,4 +1,4 @@
--- 01, "Text lines": the worked example, and what it prints; by 02 the setup line has six sorters (T-01), each set as 01 sets its one, and sdp one decimal (T-06).
+-- 01, "Text lines": the worked example, and what it prints; by 02 the setup line has six sorters (T-01), each set as 01 sets its one, sdp has one decimal (T-06), and the sheet class counts (T-05).
 use Prim.Native.Nat.{ℕ}
 use mathlib.Core.Path.{_≡_}
 use mathlib.Core.List.{List, [], _∷_, _++_}
@@ -34,6 +34,8 @@ exampleOutput =
     ∷ "refused=2 input=0"
     ∷ "code=0" ∷ "total=1" ∷ "ng=0" ∷ "lolo=0" ∷ "lo=0" ∷ "ok=1" ∷ "hi=0" ∷ "hihi=0" ∷ "foreign=0" ∷ "double=0" ∷ "crash=0"
     ∷ "max=1004" ∷ "min=1004" ∷ "sum=1004" ∷ "mean=1004" ∷ "deviation=4" ∷ "sd=none" ∷ "sdp=0.0"
+    ∷ "class0=0" ∷ "class1=0" ∷ "class2=0" ∷ "class3=0" ∷ "class4=0" ∷ "class5=0" ∷ "class6=0" ∷ "class7=0" ∷ "class8=0" ∷ "class9=0" ∷ "class10=1"
+    ∷ "class11=0" ∷ "class12=0" ∷ "class13=0" ∷ "class14=0" ∷ "class15=0" ∷ "class16=0" ∷ "class17=0" ∷ "class18=0" ∷ "class19=0" ∷ "class20=0"
     ∷ []
 
 abbrev pub Printing : Type 0

@@ -48,6 +48,9 @@ pub fn sheet(out: &mut Vec<u8>, sheet: &Sheet) {
     field(out, "deviation", sheet.deviation);
     tenths(out, "sd", sheet.sd);
     tenths(out, "sdp", sheet.sdp);
+    for (class, count) in sheet.classes.iter().enumerate() {
+        field(out, &format!("class{class}"), Some(*count));
+    }
 }
 
 fn field(out: &mut Vec<u8>, name: &str, value: Option<i64>) {

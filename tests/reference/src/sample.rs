@@ -129,9 +129,10 @@ impl Line {
         if verdict.is_in(self.setup.stop) {
             self.pause(verdict.error());
         }
+        let target = memory.settings[self.code].target;
         let tally = &mut memory.tallies[self.code];
         let before = *tally;
-        let tallied = tally.add(verdict, net);
+        let tallied = tally.add(verdict, net, target);
         self.kept = tallied.then_some(before);
         Done { detected: false, outcome: verdict as i64, net, tallied }
     }

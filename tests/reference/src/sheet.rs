@@ -1,6 +1,6 @@
 //! The sheet's figures, from one code's tally and its present target.
 
-use crate::tally::{nearest, Tally};
+use crate::tally::{nearest, Tally, CLASSES};
 
 #[derive(Clone, Copy, Debug, PartialEq, Eq)]
 pub struct Sheet {
@@ -17,6 +17,7 @@ pub struct Sheet {
     pub sd: Option<i64>,
     /// In tenths of a division.
     pub sdp: Option<i64>,
+    pub classes: [i64; CLASSES],
 }
 
 impl Sheet {
@@ -36,6 +37,7 @@ impl Sheet {
             deviation: mean.map(|mean| mean - target),
             sd: (n > 1).then(|| spread(tally, n * (n - 1))),
             sdp: (n > 0).then(|| spread(tally, n * n)),
+            classes: tally.classes,
         }
     }
 }

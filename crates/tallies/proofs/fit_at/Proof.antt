@@ -20,7 +20,7 @@ returns-3 : tie.Need-returns-3
 unfolding fitAt part
 returns-3 c =
     let k = c .before .before .before .before .args .code in
-    let e : k * 13 + 13 - k * 13 ≡ 13 = omega arith in
+    let e : k * 34 + 34 - k * 34 ≡ 34 = omega arith in
     rw (c .part-fit .ensures, e, le-leb _ _ (c .before .before .before .if1 .left), eq-eqb _ _ (c .before .before .if2 .left))
 
 pub fit-at-spec : {M : Type 1} → statement M

@@ -4,7 +4,7 @@ use mathlib.Core.Path.{_≡_}
 use Prim.Native.Nat.{_+_, _-_, _*_}
 use native.Mathlib.Omega.{arith}
 use borrow.Author.Tests.{lt-leb, le-leb, eq-eqb, ne-eqb}
-use Rattle.tallies.specs.Memory.{part}
+use Rattle.tallies.specs.Memory.{part, partOf}
 use Rattle.tallies.proofs.read.Statement.{statement}
 use Rattle.tallies.proofs.read.Tie as tie
 
@@ -15,10 +15,10 @@ returns-2 : tie.Need-returns-2
 returns-2 c = rw (le-leb _ _ (c .before .before .if1 .left), ne-eqb _ _ (c .before .if2 .taken)) (c .empty2 .ensures)
 
 returns-3 : tie.Need-returns-3
-unfolding part
+unfolding part partOf
 returns-3 c =
     let k = c .before .before .before .before .args .code in
-    let e : k * 13 + 13 - k * 13 ≡ 13 = omega arith in
+    let e : k * 34 + 34 - k * 34 ≡ 34 = omega arith in
     rw (c .tally-of .ensures, e, le-leb _ _ (c .before .before .before .if1 .left), eq-eqb _ _ (c .before .before .if2 .left))
 
 pub read-spec : {M : Type 1} → statement M

@@ -65,7 +65,13 @@ impl Belt {
     }
 }
 
-/// A box for these settings: at a limit or next to it, near zero, or anything.
+/// The lowest or the highest net of a class about the target, or the one next to it.
+fn border(random: &mut Random, target: i64) -> i64 {
+    let class = random.between(1, 20);
+    target - 5 + 11 * (class - 10) - random.between(0, 1)
+}
+
+/// A box for these settings: at a limit or next to it, at the border of a class, near zero, or anything.
 fn weight(random: &mut Random, settings: &Settings) -> i64 {
     let s = settings;
     let limit = random.pick(&[s.lolo, s.lo, s.target, s.hi, s.hihi]);
@@ -73,7 +79,8 @@ fn weight(random: &mut Random, settings: &Settings) -> i64 {
         0 => random.between(-WEIGHT, WEIGHT),
         1 => s.nearzero + random.between(0, 2),
         2 => random.between(-100, 100),
-        3..=7 => s.tare + random.between(s.lolo - 9, s.hihi + 9),
+        3..=5 => s.tare + random.between(s.lolo - 9, s.hihi + 9),
+        6 | 7 => s.tare + border(random, s.target),
         _ => s.tare + limit + random.between(-1, 1),
     };
     weight.clamp(-WEIGHT, WEIGHT)

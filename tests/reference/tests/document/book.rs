@@ -1,6 +1,8 @@
 //! Demand 3 over generated streams: the book fed only the events and their
 //! replies, and the balance of detected items.
 
+use std::array;
+
 use reference::event::Event;
 use reference::generator;
 use reference::line::{Item, Reply};
@@ -14,14 +16,16 @@ const PAGE: usize = 999_999;
 
 struct Book {
     active: usize,
-    /// For each code the verdicts (outcome, net) that stand on its page.
-    pages: Vec<Vec<(i64, i64)>>,
+    /// For each code the verdicts (outcome, net, target) that stand on its page.
+    pages: Vec<Vec<(i64, i64, i64)>>,
     chance: bool,
+    /// Each code's target, of its last accepted store.
+    targets: Vec<i64>,
 }
 
 impl Book {
     fn new() -> Book {
-        Book { active: 0, pages: vec![Vec::new(); 100], chance: false }
+        Book { active: 0, pages: vec![Vec::new(); 100], chance: false, targets: vec![0; 100] }
     }
 
     /// Enters an event and its reply, and checks tallied and cancel.
@@ -34,7 +38,8 @@ impl Book {
         let put = verdict && self.pages[self.active].len() < PAGE;
         assert_eq!(reply.done.tallied, put, "tallied exactly when put on a page");
         if put {
-            self.pages[self.active].push((reply.done.outcome, reply.done.net));
+            let target = self.targets[self.active];
+            self.pages[self.active].push((reply.done.outcome, reply.done.net, target));
         }
         if verdict {
             self.chance = put;
@@ -52,6 +57,10 @@ impl Book {
                 self.chance &= code as usize != self.active;
                 return;
             }
+            Event::Store { code, settings } => {
+                self.targets[code as usize] = settings.target;
+                return;
+            }
             _ => return,
         }
         self.chance = false;
@@ -62,6 +71,8 @@ impl Book {
         let nets = || page.iter().filter(|entry| entry.0 <= 5).map(|entry| entry.1);
         let mut counts = [0; 8];
         page.iter().for_each(|entry| counts[entry.0 as usize - 1] += 1);
+        let graded = || page.iter().filter(|entry| entry.0 <= 5);
+        let in_class = |k: i64| graded().filter(move |entry| holds(k, entry.1 - entry.2)).count();
         Tally {
             counts,
             number: nets().count() as i64,
@@ -69,8 +80,15 @@ impl Book {
             squares: nets().map(|net| net * net).sum(),
             largest: nets().max().unwrap_or(0),
             smallest: nets().min().unwrap_or(0),
+            classes: array::from_fn(|k| in_class(k as i64) as i64),
         }
     }
+}
+
+/// Class k holds a net so far from the target: 11 wide, class 10 in the middle, 0 and 20 with all below and above.
+fn holds(k: i64, from_target: i64) -> bool {
+    let middle = 11 * (k - 10);
+    (k == 0 || middle - 5 <= from_target) && (k == 20 || from_target <= middle + 5)
 }
 
 /// Detected items, by what became of them.
@@ -111,7 +129,9 @@ fn follow(kind: &str, seed: u64, lines: u64) {
         assert_eq!(program.line.code, book.active);
     }
     for code in 0..100 {
-        assert_eq!(program.memory.tallies[code], book.tally(code), "code {code}");
+        let tally = program.memory.tallies[code];
+        assert_eq!(tally, book.tally(code), "code {code}");
+        assert_eq!(tally.classes.iter().sum::<i64>(), tally.number, "code {code}");
         check_spread(&book, code);
     }
 }

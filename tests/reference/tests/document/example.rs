@@ -41,6 +41,27 @@ mean=1004
 deviation=4
 sd=none
 sdp=0.0
+class0=0
+class1=0
+class2=0
+class3=0
+class4=0
+class5=0
+class6=0
+class7=0
+class8=0
+class9=0
+class10=1
+class11=0
+class12=0
+class13=0
+class14=0
+class15=0
+class16=0
+class17=0
+class18=0
+class19=0
+class20=0
 ";
 
 #[test]

@@ -2,7 +2,7 @@
 
 use reference::print;
 use reference::sheet::Sheet;
-use reference::tally::{nearest, Tally};
+use reference::tally::{class, nearest, Tally};
 use reference::verdict::Verdict;
 
 use crate::bench::{sample, setup, store, Bench};
@@ -133,10 +133,10 @@ fn spread_of_a_full_sheet() {
 fn full((heavy, light): (i64, i64)) -> Tally {
     let mut tally = Tally::default();
     for _ in 0..heavy {
-        assert!(tally.add(Verdict::HiHi, 999_999));
+        assert!(tally.add(Verdict::HiHi, 999_999, 0));
     }
     for _ in 0..light {
-        assert!(tally.add(Verdict::LoLo, -999_998));
+        assert!(tally.add(Verdict::LoLo, -999_998, 0));
     }
     tally
 }
@@ -485,4 +485,68 @@ fn the_setup_line_of_six_sorters() {
         bench.check(&long, "refused=2");
         bench.check(&(long + "9"), "refused=1");
     }
+}
+
+/// T-05: "class 10 holds net from target - 5 to target + 5, classes 1 to 9 and 11 to 19 are 11 wide", at each border.
+#[test]
+fn borders_of_the_classes() {
+    for target in [-999_999, -1000, -5, 0, 3, 1000, 999_999] {
+        assert_eq!([-6, -5, 5, 6].map(|net| class(target + net, target)), [9, 10, 10, 11]);
+        assert_eq!([-105, -104, 104, 105].map(|net| class(target + net, target)), [0, 1, 19, 20]);
+        for k in 1..=20 {
+            let lowest = target - 5 + 11 * (k as i64 - 10);
+            assert_eq!(class(lowest, target), k);
+            assert_eq!(class(lowest - 1, target), k - 1);
+        }
+        assert_eq!([-1_999_998, 1_999_998].map(|net| class(net, target)), [0, 20]);
+    }
+}
+
+/// T-05: a verdict is in the class of the target at the verdict; a store between detection and verdict sets it.
+#[test]
+fn the_target_at_the_verdict() {
+    let mut bench = Bench::running("tw=2");
+    bench.tick("sensor=1", "detected=1");
+    bench.pause();
+    bench.check(&store("target=1005"), "status=2");
+    bench.check("COPR", "status=1");
+    bench.ticks(2, "", "outcome=0");
+    bench.tick("gross=1000", "outcome=3");
+    bench.check("report=0", "deviation=-5 class10=1 class9=0");
+    bench.check("CSTD", "status=0");
+    bench.check(&store("target=990"), "status=0");
+    bench.check("report=0", "deviation=10 class10=1 class11=0");
+}
+
+/// T-05: cancel and both clears act on the class counts; an empty sheet prints zeros.
+#[test]
+fn cancel_and_clears_of_the_classes() {
+    let mut bench = Bench::running("");
+    bench.check("report=0", "sdp=none class0=0 class10=0 class20=0");
+    bench.weigh(1000, "outcome=3");
+    bench.weigh(994, "outcome=3");
+    bench.check("report=0", "class9=1 class10=1");
+    bench.check("CCAC", "status=1");
+    bench.check("report=0", "class9=0 class10=1");
+    bench.check("CDTL0001", "status=1");
+    bench.check("report=0", "class10=1");
+    for clear in ["CDTL0000", "CETL"] {
+        bench.check(clear, "status=1");
+        bench.check("report=0", "class10=0 total=0");
+        bench.weigh(1000, "outcome=3");
+    }
+    bench.check("CCOD0001", "status=1");
+    bench.check("report=1", "class10=0");
+    bench.check("report=0", "class10=1");
+}
+
+/// T-05: only graded verdicts have a class.
+#[test]
+fn no_class_without_a_grade() {
+    let mut bench = Bench::running("");
+    bench.foreign_pulse();
+    bench.weigh(1000, "outcome=6");
+    let sheet = bench.say("report=0");
+    let classes = sheet.lines().filter(|line| line.starts_with("class"));
+    assert_eq!(classes.filter(|line| line.ends_with("=0")).count(), 21, "{sheet}");
 }

@@ -17,7 +17,7 @@ use Rattle.checkweigher.proofs.input.serve_input.Tie as tie
 
 abbrev Inv-loop : tie.InvT-loop
 Inv-loop input₀ out₀ tallies₀ line₀ settings₀ left₀ turns₀ input out tallies line settings left turns =
-    (length input ≡ 65536) × (length out ≡ 65536) × (length tallies ≡ 1300) × (left .start ≤ left .end) × (left .end ≤ 65536) × (turns ≤ 2 ^ 64 - 1) × Traced (state line settings tallies) (bytesLeft left input) (lastOf left) turns
+    (length input ≡ 65536) × (length out ≡ 65536) × (length tallies ≡ 3400) × (left .start ≤ left .end) × (left .end ≤ 65536) × (turns ≤ 2 ^ 64 - 1) × Traced (state line settings tallies) (bytesLeft left input) (lastOf left) turns
 
 abbrev μ-loop : tie.MeasureT-loop
 μ-loop input₀ out₀ tallies₀ line₀ settings₀ left₀ turns₀ input out tallies line settings left turns = 2 ^ 64 - 1 - turns

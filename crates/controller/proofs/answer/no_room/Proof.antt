@@ -16,10 +16,10 @@ moved n k at h =
     (λ z. let g = ltb-false (n - k) at z in z ∙ sym (le-ltb n (at + k) (omega (arith, h, g))))
 
 returns : tie.Need-returns
-returns c = let a = c .before .args in let h = c .if1 .taken in sym (lt-ltb (a .length) (a .at + 1024) (omega (arith, h)))
+returns c = let a = c .before .args in let h = c .if1 .taken in sym (lt-ltb (a .length) (a .at + 2048) (omega (arith, h)))
 
 returns-2 : tie.Need-returns-2
-returns-2 c = let a = c .before .args in moved (a .length) 1024 (a .at) (search needs)
+returns-2 c = let a = c .before .args in moved (a .length) 2048 (a .at) (search needs)
 
 pub no-room-spec : {M : Type 1} → statement M
 no-room-spec = tie.close (tie.spec returns returns-2)

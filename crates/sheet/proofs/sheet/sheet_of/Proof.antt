@@ -28,14 +28,15 @@ deviation-of-requires c κs =
 returns : tie.Need-returns
 unfolding sheetOf
 returns c =
-    let d = c .before .before .before in
+    let d = c .before .before .before .before in
     let m = d .before .before .before .before .before .before in
     let s = m .before .before .before in
     let t = s .args .t in
     let g = c .struct-told4 .given in
     rw (
-      c .before .sdp .ensures,
-      c .before .before .sd .ensures,
+      c .before .listed .ensures,
+      c .before .before .sdp .ensures,
+      c .before .before .before .sd .ensures,
       d .deviation-of .ensures,
       d .before .unless-none2 .ensures,
       d .before .before .before .unless-none .ensures,
@@ -55,5 +56,5 @@ sheet-of-spec =
     total-of-requires
     (search needs) (search needs) (search needs) (search needs)
     deviation-of-requires
-    (search needs) (search needs)
+    (search needs) (search needs) (search needs)
     returns)

@@ -1,6 +1,10 @@
--- `fit` tests a kept tally. Assumes nothing.
+-- `fit` tests the kept tally with its class counts. Assumes nothing.
 use borrow.Author.Needs.{needs}
+use mathlib.Core.Bool.{and-true}
 use borrow.Author.Tests.{eq-eqb, ne-eqb}
+use Rattle.tally.specs.Tally.{tallyFit}
+use Rattle.part.specs.Classes.{countsOf}
+use Rattle.part.specs.Part.{partFit}
 use Rattle.undo.specs.Undo.{undoFit}
 use Rattle.undo.proofs.Undo.fit.Statement.{statement}
 use Rattle.undo.proofs.Undo.fit.Tie as tie
@@ -10,8 +14,10 @@ unfolding undoFit
 returns c = rw (eq-eqb _ _ (c .if1 .taken))
 
 returns-2 : tie.Need-returns-2
-unfolding undoFit
-returns-2 c = rw (ne-eqb _ _ (c .before .before .if1 .left)) (c .fit .ensures)
+unfolding undoFit partFit countsOf
+returns-2 c =
+    let e = c .before .before .before .before .before in
+    rw (ne-eqb _ _ (e .if1 .left), c .before .total .ensures, c .before .before .fit .ensures, and-true (tallyFit (e .before .before .args .self .tally)))
 
 pub fit-spec : {M : Type 1} → statement M
-fit-spec = tie.close (tie.spec returns (search needs) returns-2)
+fit-spec = tie.close (tie.spec returns (search needs) (search needs) returns-2)

@@ -1,5 +1,6 @@
 -- `noted` answers by what `undo::note` keeps. Assumes nothing.
 use borrow.Author.Needs.{needs}
+use mir.Facts.{toZ-ofZ}
 use Rattle.laws.proofs.Signed.{back}
 use Rattle.line.specs.Tallying.{noted}
 use Rattle.line.proofs.effect.Effect.noted.Statement.{statement}
@@ -8,8 +9,9 @@ use Rattle.line.proofs.effect.Effect.noted.Tie as tie
 returns : tie.Need-returns
 unfolding noted
 returns c =
-    let x = c .before .before .before .before .before .before .before .args .self in
-    let k = rw (back (x .net) (c .before .before .before .before .struct-told .given .1 .1 .1 .0 .1)) at (c .before .before .before .note .ensures) in
+    let s = c .before .before .before .before .before .before .before in
+    let x = s .args .self in
+    let k = rw (back (x .net) (c .before .before .before .before .struct-told .given .1 .1 .1 .0 .1), toZ-ofZ (s .fits .target)) at (c .before .before .before .note .ensures) in
     (simp (c .replied .ensures, c .before .with-undo .ensures, k .0), k .1)
 
 pub noted-spec : {M : Type 1} → statement M

@@ -1,13 +1,14 @@
 -- `recorded` notes the verdict of the effect, if there is one, under the active code. Assumes nothing.
 use borrow.Author.Needs.{needs}
 use mathlib.Core.Path.{refl}
+use mir.Facts.{toZ-ofZ}
 use Rattle.line.specs.Tallying.{recorded}
 use Rattle.line.proofs.effect.Effect.recorded.Statement.{statement}
 use Rattle.line.proofs.effect.Effect.recorded.Tie as tie
 
 returns : tie.Need-returns
 unfolding recorded
-returns c = rw (c .before .before .before .if1 .taken) (c .before .noted .ensures)
+returns c = rw (c .before .before .before .if1 .taken) (rw (toZ-ofZ (c .before .before .before .before .before .before .fits .target)) at (c .before .noted .ensures))
 
 returns-2 : tie.Need-returns-2
 unfolding recorded

@@ -1,0 +1,4 @@
+pub mod Class
+pub mod Law
+pub mod Classes
+pub mod Part
