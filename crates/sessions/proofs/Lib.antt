@@ -1,3 +1,4 @@
+pub mod Bodies
 pub mod Prints
 pub mod Goes
 pub mod Sessions
