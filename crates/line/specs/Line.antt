@@ -1,11 +1,11 @@
 -- 01, "Line and memory": statuses, busy, the fresh line; and the line with one part anew.
 use Prim.Native.Nat.{ℕ}
-use mathlib.Core.Bool.{Bool, _&&_, _||_, not}
+use mathlib.Core.Bool.{Bool, _||_}
 use mathlib.Core.List.{List}
 use lib.Dec.{eqb}
 use lib.IntN.{pos}
 use Rattle.laws.specs.Choice.{if_then_else_}
-use Rattle.status.specs.Status.{stopped, running}
+use Rattle.status.specs.Status.{stopped, running, conveyorRuns}
 use Rattle.sorters.specs.Sorters.{anySorting, onBits, allOff}
 use Rattle.detector.specs.Foreign.{noSignal}
 use Rattle.device.specs.declared.sensor.Sensor.{Sensor}
@@ -29,9 +29,8 @@ isRunning l = eqb (l .status) running
 unfoldable pub busy : Line → Bool
 busy l = inHand (l .item) || anySorting (l .sorters)
 
--- "Conveyor is 1 when running, in mode 2 only with nothing in hand."
 unfoldable pub conveyor : Line → Bool
-conveyor l = isRunning l && not (eqb (l .setup .mode) 2 && inHand (l .item))
+conveyor l = conveyorRuns (l .status) (l .setup .mode) (inHand (l .item))
 
 -- "Sorter is 1 when running with on-time above 0."; 02, T-01: it "is 0 to 63, bit k-1 for sorter k"
 unfoldable pub sorterField : Line → ℕ

@@ -12,6 +12,7 @@ use queue::Queue;
 use sorters::all_off;
 use sorters::any_sorting;
 use sorters::on_bits;
+use status::conveyor_runs;
 use tally::Tally;
 use undo::Undo;
 
@@ -101,7 +102,7 @@ impl Line {
         ensures { λ r. ⌜ r ≡ conveyor self ⌝ }
     {
         let item = self.item;
-        (self.status == Line::RUNNING) & !((self.setup.mode == 2) & item.in_hand())
+        conveyor_runs(self.status, self.setup.mode, item.in_hand())
     }
 
     // The reply's sorter field: while running, which sorters are on.

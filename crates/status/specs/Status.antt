@@ -1,6 +1,6 @@
--- 01, "Line and memory" and "Events": the line's status and error.
+-- 01, "Line and memory" and "Events": the line's status and error, and when the conveyor runs.
 use Prim.Native.Nat.{ℕ}
-use mathlib.Core.Bool.{Bool, _||_}
+use mathlib.Core.Bool.{Bool, _&&_, _||_, not}
 use lib.Dec.{eqb}
 use Rattle.laws.specs.Choice.{if_then_else_}
 use Rattle.event.specs.Reply.{noError}
@@ -38,3 +38,7 @@ errorKnown e =
 -- "error 2 for two-on, 5 foreign, 6 crash, 0 a grade"
 unfoldable pub errorFor : ℕ → ℕ
 errorFor v = if eqb v 7 then 2 else (if eqb v 6 then 5 else (if eqb v 8 then 6 else plainError))
+
+-- "Conveyor is 1 when running, in mode 2 only with nothing in hand."
+unfoldable pub conveyorRuns : ℕ → ℕ → Bool → Bool
+conveyorRuns status mode inHand = eqb status running && not (eqb mode 2 && inHand)

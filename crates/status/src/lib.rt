@@ -1,6 +1,6 @@
-// The line's status and error: their numbers, and the error that a verdict stops the line with.
+// The line's status and error: their numbers, the error that a verdict stops the line with, and when the conveyor runs.
 ghost use mathlib.Core.Path.{_≡_};
-ghost use Rattle.status.specs.Status.{errorKnown, errorFor};
+ghost use Rattle.status.specs.Status.{errorKnown, errorFor, conveyorRuns};
 use event::Done;
 
 pub const STOPPED: u64 = 0;
@@ -50,4 +50,11 @@ pub fn error_for(verdict: u64) -> u64
         return CRASH;
     }
     PLAIN
+}
+
+// With a status and a mode, an item in hand or not.
+pub fn conveyor_runs(status: u64, mode: u64, hand: bool) -> bool
+    ensures { λ r. ⌜ r ≡ conveyorRuns status mode hand ⌝ }
+{
+    (status == RUNNING) & !((mode == 2) & hand)
 }

@@ -6,7 +6,7 @@ use Rattle.line.proofs.line.Line.conveyor.Tie as tie
 
 returns : tie.Need-returns
 unfolding conveyor
-returns c = simp (c .in-hand .ensures)
+returns c = simp (c .conveyor-runs .ensures, c .before .in-hand .ensures)
 
 pub conveyor-spec : {M : Type 1} → statement M
-conveyor-spec = tie.close (tie.spec (search needs) returns)
+conveyor-spec = tie.close (tie.spec (search needs) (search needs) returns)
