@@ -75,6 +75,7 @@ with-code l c f h =
       foreign = f .foreign;
       item = f .item;
       undo = nothing-fit;
+      bench = f .bench;
     }
 
 no-error : (l : Line) → FitLine l → FitLine (withStatus l (l .status) noError)
@@ -94,6 +95,7 @@ no-error l f =
       foreign = f .foreign;
       item = f .item;
       undo = f .undo;
+      bench = f .bench;
     }
 
 -- a stopped line has nothing in hand, so any setup fits it
@@ -134,6 +136,7 @@ with-setup l s f h z =
       foreign = f .foreign;
       item = item-none (l .item) s (stopped-empty l (f .status) z);
       undo = f .undo;
+      bench = f .bench;
     }
 
 -- ---- commands to the book

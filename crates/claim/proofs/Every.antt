@@ -16,9 +16,10 @@ use Rattle.settings.specs.Settings.{blank, recordFit, recordRanged, limitsOrder
 use Rattle.settings.specs.declared.Settings.{Settings}
 use Rattle.device.specs.Sensor.{sensorFit}
 use Rattle.sorters.proofs.Keeps.{all-off-fit, all-off-idle}
+use Rattle.bench.proofs.Grosses as bench
 use Rattle.detector.proofs.Signals.{none-fit}
 use Rattle.lists.specs.Each.{allOf}
-use Rattle.event.specs.Setup.{sorterRanged, sortersRanged, setupRanged, edgeAgrees}
+use Rattle.event.specs.Setup.{sorterRanged, sortersRanged, setupRanged, edgeAgrees, masksAgree, setupAgrees}
 use Rattle.event.specs.Event.{eventRanged, eventAgrees}
 use Rattle.event.specs.declared.Event.{Event}
 use Rattle.event.specs.declared.Event.the-variants.{Sample, Run, Stop, Emergency, Recall, Cancel, ClearCode, ClearAll, ErrorReset, NoOperation, Setup, Store}
@@ -194,9 +195,9 @@ holds-after w e h =
 -- ---- every list
 
 fresh-fit : FitLine freshLine
-unfolding freshLine allOf sorterRanged sortersRanged setupRanged edgeAgrees lastFit sensorFit statusFit errorKnown busy itemFit undoFit
+unfolding freshLine allOf sorterRanged sortersRanged setupRanged edgeAgrees masksAgree setupAgrees lastFit sensorFit statusFit errorKnown busy itemFit undoFit
 fresh-fit =
-    record { code = refl; setup = refl; last = refl; sensor = refl; status = rw all-off-idle; sorters = all-off-fit; foreign = none-fit; item = refl; undo = refl }
+    record { code = refl; setup = refl; last = refl; sensor = refl; status = rw all-off-idle; sorters = all-off-fit; foreign = none-fit; item = refl; undo = refl; bench = bench.fresh-fit }
 
 blank-fit : recordFit blank ≡ true
 unfolding recordRanged limitsOrdered

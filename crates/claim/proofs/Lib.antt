@@ -5,4 +5,5 @@ pub mod Events
 pub mod RunningTicks
 pub mod Signals
 pub mod SortersApart
+pub mod BenchMode
 pub mod Every

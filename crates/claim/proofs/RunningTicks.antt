@@ -1,30 +1,54 @@
--- A sample is a running tick, with steps 4 to 7, or it leaves the foreign signals as they are and gives no verdict. Assumes
--- nothing.
+-- A sample is a running tick, with steps 4 to 7, or it leaves the foreign signals and the bench as they are, detects nothing
+-- and gives no verdict. Assumes nothing.
 use mathlib.Core.Path.{_≡_, refl}
 use mathlib.Core.Bool.{Bool, true, false, _&&_}
+use mathlib.Core.List.{List}
 use Prim.Native.Nat.{_≤_}
 use native.Mathlib.Omega.{arith}
 use lib.Dec.{eqb}
+use lib.IntN.{ℤ}
 use borrow.Author.Tests.{eqb-true, eqb-false, eq-eqb, ne-eqb}
-use Rattle.laws.proofs.Tests.{both, by-cases}
+use Rattle.laws.proofs.Tests.{both, by-cases, if-ind}
 use Rattle.mask.specs.Bits.{lowestOff}
 use Rattle.settings.specs.declared.Settings.{Settings}
 use Rattle.event.specs.declared.Sample.{Sample}
 use Rattle.tally.specs.Tally.{isVerdict}
 use Rattle.status.specs.Status.{stopped, running, emergency}
 use Rattle.line.specs.Line.{isRunning}
-use Rattle.line.specs.Effect.{halted, halting}
+use Rattle.line.specs.Effect.{halted, halting, replied}
+use Rattle.line.specs.Tallying.{Out, untallied, noted, recorded}
 use Rattle.line.specs.Sample.{step1, step2, step3, guarded, fromStep3, runningTick, sampled, tickOf}
 use Rattle.line.specs.declared.line.Line.{Line}
 use Rattle.line.specs.declared.effect.Effect.{Effect}
+use Rattle.book.specs.Boxes.{detectedBy, outcomeOf}
+use Rattle.claim.specs.Claim.{refusalIn}
 use Rattle.claim.proofs.Events.{halting-quiet}
 
 -- the test of a sample on a line, in the words of steps 2 and 3
 abbrev pub ticks : Line → Sample → Bool
 ticks l s = eqb (s .emergency) 0 && isRunning l && eqb (lowestOff (l .setup .need) (s .safety)) 0
 
+-- what a sample hands back shows its effect
+pub record Shows (x : Effect) (o : Out) : Type 0 where
+  pub foreign : o .line .foreign ≡ x .line .foreign
+  pub sorters : o .line .sorters ≡ x .line .sorters
+  pub status : o .line .status ≡ x .line .status
+  pub bench : o .line .bench ≡ x .line .bench
+  pub detected : detectedBy (o .reply) ≡ x .detected
+  pub outcome : outcomeOf (o .reply) ≡ x .outcome
+  pub accepted : refusalIn (o .reply) ≡ 0
+
+pub recorded-shows : (x : Effect) (target : ℤ) (ts : List ℤ) → Shows x (recorded x target ts)
+unfolding recorded noted replied
+recorded-shows x target ts =
+    if-ind (Shows x) (isVerdict (x .outcome)) (noted x target ts) (untallied x ts)
+    (λ _. record { foreign = refl; sorters = refl; status = refl; bench = refl; detected = refl; outcome = refl; accepted = refl })
+    (λ _. record { foreign = refl; sorters = refl; status = refl; bench = refl; detected = refl; outcome = refl; accepted = refl })
+
 pub record Quiet (l : Line) (x : Effect) : Type 0 where
   pub foreign : x .line .foreign ≡ l .foreign
+  pub bench : x .line .bench ≡ l .bench
+  pub detected : x .detected ≡ 0
   pub verdict : isVerdict (x .outcome) ≡ false
 
 pub tick-told : (l : Line) (a : Settings) (s : Sample) → ticks l s ≡ true → sampled l a s ≡ runningTick (step1 l s) (tickOf l a s)
@@ -40,11 +64,11 @@ pub quiet-told : (l : Line) (a : Settings) (s : Sample) → s .emergency ≤ 1 �
 unfolding sampled fromStep3 step1 step2 step3 guarded halting halted
 quiet-told l a s low n =
     by-cases (eqb (s .emergency) 1)
-    (λ h. rw h (record { foreign = refl; verdict = halting-quiet (step1 l s) emergency }))
+    (λ h. rw h (record { foreign = refl; bench = refl; detected = refl; verdict = halting-quiet (step1 l s) emergency }))
     (λ h. by-cases (eqb (l .status) emergency)
-    (λ g. rw (h, g) (record { foreign = refl; verdict = halting-quiet (step1 l s) stopped }))
+    (λ g. rw (h, g) (record { foreign = refl; bench = refl; detected = refl; verdict = halting-quiet (step1 l s) stopped }))
     (λ g. by-cases (eqb (l .status) running)
     (λ r. let z : eqb (s .emergency) 0 ≡ true = eq-eqb (s .emergency) 0 (omega (arith, eqb-false (s .emergency) 1 h)) in
     let t : eqb (lowestOff (l .setup .need) (s .safety)) 0 ≡ false = rw (z, r) at n in
-    rw (h, g, r, t) (record { foreign = refl; verdict = refl }))
-    (λ r. rw (h, g, r) (record { foreign = refl; verdict = refl }))))
+    rw (h, g, r, t) (record { foreign = refl; bench = refl; detected = refl; verdict = refl }))
+    (λ r. rw (h, g, r) (record { foreign = refl; bench = refl; detected = refl; verdict = refl }))))

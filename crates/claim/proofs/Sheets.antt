@@ -149,6 +149,7 @@ with-undo k u f h =
       foreign = f .foreign;
       item = f .item;
       undo = h;
+      bench = f .bench;
     }
 
 -- the reply shows the effect

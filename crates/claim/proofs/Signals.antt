@@ -26,7 +26,7 @@ use Rattle.status.specs.Status.{stopped, emergency}
 use Rattle.line.specs.Effect.{halted, halting, replied}
 use Rattle.line.specs.Sample.{step1, foreignRises, runningTick, sampled, tickOf}
 use Rattle.line.specs.Command.{ran, stopping, alarmed}
-use Rattle.line.specs.Tallying.{Out, untallied, noted, recorded, codeCleared}
+use Rattle.line.specs.Tallying.{Out, recorded, codeCleared}
 use Rattle.line.specs.State.{State, activeOf}
 use Rattle.line.specs.Refusal.{refusalOf}
 use Rattle.line.specs.Step.{accepted, refused, stepOf, outOn}
@@ -41,7 +41,7 @@ use Rattle.claim.specs.Run.{World, after, runFrom}
 use Rattle.claim.specs.RunningTick.{isRunningTick}
 use Rattle.claim.specs.Signals.{takenBy, endedAt, usedUpBy, addedUp}
 use Rattle.claim.proofs.Events.{halting-quiet, stop-quiet}
-use Rattle.claim.proofs.RunningTicks.{ticks, Quiet, tick-told, quiet-told}
+use Rattle.claim.proofs.RunningTicks.{ticks, Quiet, recorded-shows, tick-told, quiet-told}
 
 -- ---- one event
 
@@ -62,19 +62,6 @@ quiet-kept : (l : Line) (e : Event) (o : Out) → isRunningTick l e (o .reply) �
 unfolding takenBy usedUpBy
 quiet-kept l e o n f v =
     record { count = rw (n, f) (omega (arith, no-verdict (endedAt l e) (outcomeOf (o .reply)) v)); still = λ _. f }
-
--- what a sample hands back shows its effect
-record Shows (x : Effect) (o : Out) : Type 0 where
-  foreign : o .line .foreign ≡ x .line .foreign
-  outcome : outcomeOf (o .reply) ≡ x .outcome
-  accepted : refusalIn (o .reply) ≡ 0
-
-recorded-shows : (x : Effect) (target : ℤ) (ts : List ℤ) → Shows x (recorded x target ts)
-unfolding recorded noted replied
-recorded-shows x target ts =
-    if-ind (Shows x) (isVerdict (x .outcome)) (noted x target ts) (untallied x ts)
-    (λ _. record { foreign = refl; outcome = refl; accepted = refl })
-    (λ _. record { foreign = refl; outcome = refl; accepted = refl })
 
 sample-kept : (l : Line) (a : Settings) (ts : List ℤ) (s : sample.Sample) → isTime (l .setup .tf) ≡ true → s .emergency ≤ 1 → Kept l (Sample s) (recorded (sampled l a s) (a .target) ts)
 unfolding isRunningTick takenBy usedUpBy endedAt step1

@@ -30,7 +30,7 @@ use Rattle.line.specs.Fit.{statusFit}
 use Rattle.line.specs.Effect.{halted, halting, replied}
 use Rattle.line.specs.Sample.{step1, step2, step3, guarded, fromStep3, runningTick, sampled, tickOf}
 use Rattle.line.specs.Command.{ran, stopping, alarmed}
-use Rattle.line.specs.Tallying.{Out, untallied, noted, recorded, codeCleared}
+use Rattle.line.specs.Tallying.{Out, recorded, codeCleared}
 use Rattle.tally.specs.Tally.{isVerdict}
 use Rattle.item.specs.Item.{inHand}
 use Rattle.line.specs.State.{State, activeOf}
@@ -45,7 +45,7 @@ use Rattle.book.specs.Boxes.{outcomeOf}
 use Rattle.claim.specs.Claim.{refusalIn}
 use Rattle.claim.specs.RunningTick.{isRunningTick}
 use Rattle.claim.specs.SortersApart.{isHalted, sorterAfter, sorterOf, setOf, SameSorter}
-use Rattle.claim.proofs.RunningTicks.{ticks, tick-told}
+use Rattle.claim.proofs.RunningTicks.{ticks, recorded-shows, tick-told}
 
 -- ---- off, and idle
 
@@ -128,20 +128,6 @@ record Moved (l : Line) (e : Event) (o : Out) : Type 0 where
   tick : isRunningTick l e (o .reply) ≡ true
       → o .line .sorters ≡ allEntered (outcomeOf (o .reply)) (allTicked (l .sorters) (sorterSetups (l .setup))) (sorterSetups (l .setup))
   quiet : isRunningTick l e (o .reply) ≡ false → Rests l (o .line)
-
--- what a sample hands back shows its effect
-record Shows (x : Effect) (o : Out) : Type 0 where
-  sorters : o .line .sorters ≡ x .line .sorters
-  status : o .line .status ≡ x .line .status
-  outcome : outcomeOf (o .reply) ≡ x .outcome
-  accepted : refusalIn (o .reply) ≡ 0
-
-recorded-shows : (x : Effect) (target : ℤ) (ts : List ℤ) → Shows x (recorded x target ts)
-unfolding recorded noted replied
-recorded-shows x target ts =
-    if-ind (Shows x) (isVerdict (x .outcome)) (noted x target ts) (untallied x ts)
-    (λ _. record { sorters = refl; status = refl; outcome = refl; accepted = refl })
-    (λ _. record { sorters = refl; status = refl; outcome = refl; accepted = refl })
 
 carry : (l m k : Line) → k .sorters ≡ m .sorters → k .status ≡ m .status → Rests l m → Rests l k
 carry l m k s e (stays p q) = stays (s ∙ p) (λ h. q (rw e at h))

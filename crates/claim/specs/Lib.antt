@@ -5,3 +5,4 @@ pub mod StatusRefusals
 pub mod RunningTick
 pub mod Signals
 pub mod SortersApart
+pub mod BenchMode

@@ -1,4 +1,5 @@
 // Demand 3: no box is counted twice or lost, whatever list of events comes.
+ghost use Rattle.claim.specs.BenchMode.{BenchMode};
 ghost use Rattle.claim.specs.Claim.{Claim};
 ghost use Rattle.claim.specs.Example.{Example};
 ghost use Rattle.claim.specs.Signals.{SignalsKept};
@@ -29,4 +30,9 @@ pub fn signals_kept()
 // What an event makes of a sorter hangs on that sorter, its settings, the tick and the verdict given, and on no other sorter.
 pub fn sorters_apart()
     ensures { λ _. ⌜ SortersApart ⌝ }
+{}
+
+// In bench mode two-on cannot occur, and between two detections there is an arming: a box that lies still is weighed once.
+pub fn bench_mode()
+    ensures { λ _. ⌜ BenchMode ⌝ }
 {}

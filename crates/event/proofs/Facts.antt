@@ -7,13 +7,14 @@ use borrow.Author.Tests.{leb-true}
 use Rattle.laws.specs.Choice.{within}
 use Rattle.weight.specs.Weight.{isWeight}
 use Rattle.laws.proofs.Tests.{both}
-use Rattle.event.specs.Setup.{sorterRanged, sortersRanged, setupRanged, edgeAgrees, setupFit}
+use Rattle.event.specs.Setup.{sorterRanged, isMode, sortersRanged, setupRanged, setupAgrees, setupFit}
 use Rattle.event.specs.Sample.{sampleRanged}
 use Rattle.event.specs.declared.Setup.{Setup}
 use Rattle.event.specs.declared.SorterSetup.{SorterSetup}
 use Rattle.event.specs.declared.Sample.{Sample}
 
 pub record Timers (s : Setup) : Type 0 where
+  pub mode : isMode (s .mode) ≡ true
   pub tc : s .tc ≤ 9999
   pub tw : s .tw ≤ 9999
   pub tf : s .tf ≤ 9999
@@ -23,21 +24,22 @@ pub record Timers (s : Setup) : Type 0 where
 
 -- the tests before those of ta and the sorters
 abbrev delays : Setup → Bool
-delays s = within 1 2 (s .mode) && within 1 2 (s .edge) && leb (s .tc) 9999 && leb (s .tw) 9999 && leb (s .tf) 9999
+delays s = isMode (s .mode) && within 1 2 (s .edge) && leb (s .tc) 9999 && leb (s .tw) 9999 && leb (s .tf) 9999
 
 pub timers : (s : Setup) → setupFit s ≡ true → Timers s
 unfolding setupRanged
 timers s h =
-    let r = both (setupRanged s) (edgeAgrees s) h in
+    let r = both (setupRanged s) (setupAgrees s) h in
     let b = both _ (leb (s .need) 255) (r .0) in
     let c = both _ (leb (s .stop) 255) (b .0) in
     let d = both _ (sortersRanged s) (c .0) in
     let ta = both (delays s) (within 1 9999 (s .ta)) (d .0) in
     let tf = both _ (leb (s .tf) 9999) (ta .0) in
     let tw = both _ (leb (s .tw) 9999) (tf .0) in
-    let tc = both (within 1 2 (s .mode) && within 1 2 (s .edge)) (leb (s .tc) 9999) (tw .0) in
+    let tc = both (isMode (s .mode) && within 1 2 (s .edge)) (leb (s .tc) 9999) (tw .0) in
     let ta-both = both (leb 1 (s .ta)) (leb (s .ta) 9999) (ta .1) in
     record {
+      mode = both (isMode (s .mode)) (within 1 2 (s .edge)) (tc .0) .0;
       tc = leb-true _ _ (tc .1);
       tw = leb-true _ _ (tw .1);
       tf = leb-true _ _ (tf .1);

@@ -1,7 +1,7 @@
 // The twelve kinds of event, and which values of their fields are refused 2 (range) or 4 (contradiction).
 // The fields are wide enough to carry values out of range.
 ghost use mathlib.Core.Path.{_≡_};
-ghost use Rattle.event.specs.Setup.{freshSetup, sorterSetups, sorterRanged, sortersRanged, setupRanged, edgeAgrees, setupFit};
+ghost use Rattle.event.specs.Setup.{freshSetup, sorterSetups, sorterRanged, sortersRanged, setupRanged, edgeAgrees, masksAgree, setupAgrees, setupFit};
 ghost use Rattle.event.specs.Sample.{sampleRanged};
 ghost use Rattle.event.specs.Event.{eventRanged, eventAgrees};
 ghost use Rattle.event.specs.Kind.{kindOf};
@@ -28,7 +28,7 @@ pub struct SorterSetup {
 // What stopped status lets one set up: timers are in ticks of 10 ms, 0 or 1 to 9,999; masks are 0 to 255. An event holds it,
 // and an enum that holds an array is not covered: so the sorters are six fields, and `sorters` gives them as an array.
 pub struct Setup {
-    // 1 in through, 2 stop
+    // 1 in through, 2 stop, 4 bench
     pub mode: u64,
     // 1 off to on, 2 on to off
     pub edge: u64,
@@ -83,6 +83,9 @@ impl SorterSetup {
 }
 
 impl Setup {
+    // mode 4, bench
+    pub const BENCH: u64 = 4;
+
     // how many sorters a line has
     pub const SORTERS: usize = 6;
 
@@ -156,7 +159,7 @@ impl Setup {
     pub fn ranged(self) -> bool
         ensures { λ r. ⌜ r ≡ setupRanged self ⌝ }
     {
-        ((1 <= self.mode) & (self.mode <= 2))
+        (((1 <= self.mode) & (self.mode <= 2)) | (self.mode == Setup::BENCH))
             & ((1 <= self.edge) & (self.edge <= 2))
             & (self.tc <= LONGEST)
             & (self.tw <= LONGEST)
@@ -168,16 +171,37 @@ impl Setup {
     }
 
     // Mode 2 needs edge 2.
-    pub fn edge_agrees(self) -> bool
+    fn edge_agrees(self) -> bool
         ensures { λ r. ⌜ r ≡ edgeAgrees self ⌝ }
     {
         !((self.mode == 2) & (self.edge == 1))
     }
 
+    // Mode 4 needs sort masks of 0.
+    fn masks_agree(self) -> bool
+        ensures { λ r. ⌜ r ≡ masksAgree self ⌝ }
+    {
+        if self.mode != Setup::BENCH {
+            return true;
+        }
+        (self.sorter1.sort == 0)
+            & ((self.sorter2.sort == 0)
+                & ((self.sorter3.sort == 0)
+                    & ((self.sorter4.sort == 0)
+                        & ((self.sorter5.sort == 0) & (self.sorter6.sort == 0)))))
+    }
+
+    // No field contradicts another.
+    pub fn agrees(self) -> bool
+        ensures { λ r. ⌜ r ≡ setupAgrees self ⌝ }
+    {
+        self.edge_agrees() & self.masks_agree()
+    }
+
     pub fn fit(self) -> bool
         ensures { λ r. ⌜ r ≡ setupFit self ⌝ }
     {
-        self.ranged() & self.edge_agrees()
+        self.ranged() & self.agrees()
     }
 }
 
@@ -258,7 +282,7 @@ impl Event {
         ensures { λ r. ⌜ r ≡ eventAgrees self ⌝ }
     {
         match self {
-            Event::Setup(s) => s.edge_agrees(),
+            Event::Setup(s) => s.agrees(),
             Event::Store(_, s) => s.ordered(),
             _ => true,
         }

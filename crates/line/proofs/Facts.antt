@@ -11,6 +11,7 @@ use Rattle.line.specs.Fit.{statusFit, lineFit}
 use Rattle.event.specs.Sample.{lastFit}
 use Rattle.item.specs.Item.{itemFit}
 use Rattle.undo.specs.Undo.{undoFit}
+use Rattle.bench.specs.Bench.{benchFit}
 use Rattle.line.specs.declared.line.Line.{Line}
 
 pub record FitLine (l : Line) : Type 0 where
@@ -23,11 +24,13 @@ pub record FitLine (l : Line) : Type 0 where
   pub foreign : foreignFit (l .foreign) ≡ true
   pub item : itemFit (l .item) (l .setup) ≡ true
   pub undo : undoFit (l .undo) ≡ true
+  pub bench : benchFit (l .bench) ≡ true
 
 pub fit-tells : (l : Line) → lineFit l ≡ true → FitLine l
 unfolding lineFit
 fit-tells l h =
-    let a = both _ (undoFit (l .undo)) h in
+    let z = both _ (benchFit (l .bench)) h in
+    let a = both _ (undoFit (l .undo)) (z .0) in
     let b = both _ (itemFit (l .item) (l .setup)) (a .0) in
     let c = both _ (foreignFit (l .foreign)) (b .0) in
     let d = both _ (allFit (l .sorters)) (c .0) in
@@ -45,9 +48,10 @@ fit-tells l h =
       foreign = c .1;
       item = b .1;
       undo = a .1;
+      bench = z .1;
     }
 
 pub tells-fit : (l : Line) → FitLine l → lineFit l ≡ true
 unfolding lineFit
 tells-fit l f =
-    rw (f .code, f .setup, f .last, f .sensor, f .status, f .sorters, f .foreign, f .item, f .undo)
+    rw (f .code, f .setup, f .last, f .sensor, f .status, f .sorters, f .foreign, f .item, f .undo, f .bench)

@@ -6,6 +6,7 @@ use Prim.Native.Nat.{ℕ}
 use lib.Dec.{leb, eqb}
 use borrow.Author.Tests.{eqb-true}
 use Rattle.laws.proofs.Tests.{both, and-intro, if-ind}
+use Rattle.weight.specs.Weight.{isWeight}
 use Rattle.mask.specs.Bits.{marked}
 use Rattle.lists.specs.Each.{allOf}
 use Rattle.sorters.specs.Sorters.{allFit, allTicked, allEntered}
@@ -13,20 +14,23 @@ use Rattle.sorters.proofs.Keeps.{all-ticked-fit, all-entered-fit, all-off-fit, 
 use Rattle.detector.specs.Foreign.{foreignTicked, foreignFit}
 use Rattle.device.specs.declared.sorter.Sorter.{Sorter}
 use Rattle.detector.specs.declared.Foreign.{Foreign}
+use Rattle.bench.specs.Bench.{tickedOn, benchFit}
+use Rattle.bench.specs.declared.Bench.{Bench}
+use Rattle.bench.proofs.Grosses.{ticked-fit}
 use Rattle.device.proofs.Keeps.{settled-fit}
 use Rattle.detector.proofs.Signals.{foreign-ticked-fit}
 use Rattle.event.specs.declared.Sample.{Sample}
-use Rattle.event.specs.Setup.{sorterSetups, sorterRanged, sortersRanged}
+use Rattle.event.specs.Setup.{isBench, sorterSetups, sorterRanged, sortersRanged}
 use Rattle.event.proofs.Facts.{timers, InRange}
 use Rattle.status.specs.Status.{stopped, running, paused, emergency, errorKnown, errorFor}
-use Rattle.line.specs.Line.{busy, withStatus, withSorters, withForeign, withItem}
+use Rattle.line.specs.Line.{busy, withStatus, withSorters, withForeign, withItem, withBench}
 use Rattle.event.specs.Reply.{noError}
 use Rattle.line.specs.Fit.{statusFit}
 use Rattle.event.specs.Sample.{lastFit}
 use Rattle.item.specs.Item.{itemFit}
 use Rattle.line.specs.Effect.{halted}
 use Rattle.line.specs.Verdict.{sortedFor, stoppedFor}
-use Rattle.line.specs.Sample.{step1, step4, step5}
+use Rattle.line.specs.Sample.{step1, onBench, step4, step5}
 use Rattle.line.specs.declared.line.Line.{Line}
 use Rattle.item.specs.declared.Item.{Item}
 use Rattle.line.specs.declared.sample.Tick.{Tick}
@@ -70,6 +74,7 @@ with-item l i r h =
         foreign = r .fit .foreign;
         item = h;
         undo = r .fit .undo;
+        bench = r .fit .bench;
       };
       status = r .status;
       error = r .error;
@@ -88,6 +93,7 @@ with-sorters l ss r h =
         foreign = r .fit .foreign;
         item = r .fit .item;
         undo = r .fit .undo;
+        bench = r .fit .bench;
       };
       status = r .status;
       error = r .error;
@@ -106,6 +112,26 @@ with-foreign l f r h =
         foreign = h;
         item = r .fit .item;
         undo = r .fit .undo;
+        bench = r .fit .bench;
+      };
+      status = r .status;
+      error = r .error;
+    }
+
+pub with-bench : (l : Line) (b : Bench) → Running l → benchFit b ≡ true → Running (withBench l b)
+with-bench l b r h =
+    record {
+      fit = record {
+        code = r .fit .code;
+        setup = r .fit .setup;
+        last = r .fit .last;
+        sensor = r .fit .sensor;
+        status = running-status (withBench l b) (r .status) (r .error);
+        sorters = r .fit .sorters;
+        foreign = r .fit .foreign;
+        item = r .fit .item;
+        undo = r .fit .undo;
+        bench = h;
       };
       status = r .status;
       error = r .error;
@@ -123,6 +149,7 @@ with-paused l e f h =
       foreign = f .foreign;
       item = f .item;
       undo = f .undo;
+      bench = f .bench;
     }
 
 -- ---- the steps that change one part
@@ -130,6 +157,14 @@ with-paused l e f h =
 sorters-in-range : (l : Line) → Running l → allOf sorterRanged (sorterSetups (l .setup)) ≡ true
 unfolding sortersRanged
 sorters-in-range l r = timers (l .setup) (r .fit .setup) .sorters
+
+pub fit-on-bench : (l : Line) (t : Tick) → Running l → isWeight (t .gross) ≡ true → Running (onBench l t)
+unfolding onBench
+fit-on-bench l t r g =
+    with-bench l _ r
+    (if-ind (λ (b : Bench). benchFit b ≡ true) (isBench (l .setup)) (tickedOn (l .bench) (t .gross) (t .active .nearzero)) (l .bench)
+    (λ _. ticked-fit (l .bench) (t .gross) (t .active .nearzero) g (r .fit .bench))
+    (λ _. r .fit .bench))
 
 pub fit-step4 : (l : Line) → Running l → Running (step4 l)
 unfolding step4
@@ -174,6 +209,7 @@ fit-step1 l s f r =
       foreign = f .foreign;
       item = f .item;
       undo = f .undo;
+      bench = f .bench;
     }
 
 -- ---- stopped and emergency
@@ -191,6 +227,7 @@ halted-fit l s f h =
       foreign = f .foreign;
       item = refl;
       undo = f .undo;
+      bench = f .bench;
     }
 
 stopped-status : (l : Line) → statusFit (halted l stopped) ≡ true

@@ -5,4 +5,5 @@ pub mod Keeps
 pub mod Ticks
 pub mod Signals
 pub mod Sorting
+pub mod Bench
 pub mod Stores

@@ -22,11 +22,11 @@ use Rattle.item.specs.declared.Weighed.{Weighed}
 use Rattle.item.specs.declared.Weighed.the-variants.{Still, Mean}
 use Rattle.line.specs.Line.{isRunning, withForeign, withItem}
 use Rattle.line.specs.Verdict.{given, orCrash, verdictOf, judged}
-use Rattle.line.specs.Sample.{step4, step5, step6, afterWeighing, detecting, step7, ninthSignal, unlessNinth, runningTick}
+use Rattle.line.specs.Sample.{step4, step5, step6, onBench, afterWeighing, boxTaken, step7, ninthSignal, unlessNinth, runningTick}
 use Rattle.line.specs.declared.sample.Tick.{Tick}
 use Rattle.line.specs.declared.line.Line.{Line}
 use Rattle.line.specs.declared.effect.Effect.{Effect}
-use Rattle.line.proofs.Ticks.{given-same}
+use Rattle.line.proofs.Ticks.{given-same, seven-ind}
 
 -- what an outcome uses up, where d says whether a signal has ended
 abbrev pub usedOf : Bool → ℕ → ℕ
@@ -107,19 +107,17 @@ two-on-counts m e u h =
     rw (given-same (withItem (e .line) None) 1 7 (pos 0) .foreign) c
 
 seven-counts : (m : Line) (e : Effect) (t : Tick) → Uses m e → Counts m (step7 e t)
-unfolding step7 detecting
+unfolding boxTaken
 seven-counts m e t u =
-    if-ind (Counts m) (isRunning (e .line) && t .made) _ _
-    (λ _. if-ind (Counts m) (inHand (e .line .item)) _ _ (λ h. two-on-counts m e u h) (λ _. u .count))
-    (λ _. u .count)
+    seven-ind (Counts m) e t (λ h _ _. two-on-counts m e u h) (λ _ _ _. u .count) (λ _ _ _ _. u .count) (u .count)
 
 -- ---- a running tick: one is taken in step 5, one may be used up in step 6
 
 pub tick-counts : (k : Line) (t : Tick) → isTime (k .setup .tf) ≡ true
     → carried (k .foreign) + bit (t .rises && not (eightCarried (k .foreign)))
     ≡ carried (runningTick k t .line .foreign) + usedOf (due (foreignTicked (k .foreign) (t .rises) (k .setup .tf))) (runningTick k t .outcome)
-unfolding runningTick unlessNinth step4 step5
+unfolding runningTick unlessNinth onBench step4 step5
 tick-counts k t time =
-    let m = step5 (step4 k) t in
+    let m = step5 (step4 (onBench k t)) t in
     sym (ticked-carried (k .foreign) (t .rises) (k .setup .tf) time)
     ∙ if-ind (Counts m) (ninthSignal k t) _ _ (λ _. omega arith) (λ _. seven-counts m (step6 m t) t (six-uses m t))

@@ -19,11 +19,11 @@ use Rattle.item.specs.declared.Weighed.{Weighed}
 use Rattle.item.specs.declared.Weighed.the-variants.{Still, Mean}
 use Rattle.line.specs.Line.{isRunning, withForeign, withItem}
 use Rattle.line.specs.Verdict.{sortedFor, stoppedFor, given, orCrash, verdictOf, judged}
-use Rattle.line.specs.Sample.{step4, step5, step6, afterWeighing, detecting, step7, ninthSignal, unlessNinth, runningTick}
+use Rattle.line.specs.Sample.{step4, step5, step6, onBench, afterWeighing, boxTaken, step7, ninthSignal, unlessNinth, runningTick}
 use Rattle.line.specs.declared.sample.Tick.{Tick}
 use Rattle.line.specs.declared.line.Line.{Line}
 use Rattle.line.specs.declared.effect.Effect.{Effect}
-use Rattle.line.proofs.Ticks.{given-same}
+use Rattle.line.proofs.Ticks.{given-same, seven-ind}
 
 -- the sorters after an effect are those of m, with its outcome entered; m's setup stays
 abbrev Entered : Line → Effect → Type 0
@@ -40,24 +40,16 @@ stopped-sorters : (l : Line) (v : ℕ) → stoppedFor l v .sorters ≡ l .sorter
 unfolding stoppedFor
 stopped-sorters l v = if-ind (λ (k : Line). k .sorters ≡ l .sorters) (marked (l .setup .stop) v) _ _ (λ _. refl) (λ _. refl)
 
-stopped-setup : (l : Line) (v : ℕ) → stoppedFor l v .setup ≡ l .setup
-unfolding stoppedFor
-stopped-setup l v = if-ind (λ (k : Line). k .setup ≡ l .setup) (marked (l .setup .stop) v) _ _ (λ _. refl) (λ _. refl)
-
 given-sorters : (k : Line) (d v : ℕ) (net : ℤ) → given k d v net .line .sorters ≡ allEntered v (k .sorters) (sorterSetups (k .setup))
 unfolding given sortedFor
 given-sorters k d v net = stopped-sorters (sortedFor k v) v
-
-given-setup : (k : Line) (d v : ℕ) (net : ℤ) → given k d v net .line .setup ≡ k .setup
-unfolding given sortedFor
-given-setup k d v net = stopped-setup (sortedFor k v) v
 
 given-sorted : (m k : Line) (v : ℕ) (net : ℤ) → k .item ≡ None → k .sorters ≡ m .sorters → k .setup ≡ m .setup → Sorted m (given k 0 v net)
 unfolding given
 given-sorted m k v net i s p =
     record {
       entered = given-sorters k 0 v net ∙ rw (s, p) refl;
-      setup = given-setup k 0 v net ∙ p;
+      setup = given-same k 0 v net .setup ∙ p;
       held = λ h. never (rw (given-same k 0 v net .item ∙ i) at h);
     }
 
@@ -93,18 +85,16 @@ two-on-entered m e s h =
     given-sorters (withItem (e .line) None) 1 7 (pos 0) ∙ rw (before, s .setup) refl
 
 seven-entered : (m : Line) (e : Effect) (t : Tick) → Sorted m e → Entered m (step7 e t)
-unfolding step7 detecting
+unfolding boxTaken
 seven-entered m e t s =
-    if-ind (Entered m) (isRunning (e .line) && t .made) _ _
-    (λ _. if-ind (Entered m) (inHand (e .line .item)) _ _ (λ h. two-on-entered m e s h) (λ _. s .entered))
-    (λ _. s .entered)
+    seven-ind (Entered m) e t (λ h _ _. two-on-entered m e s h) (λ _ _ _. s .entered) (λ _ _ _ _. s .entered) (s .entered)
 
 pub tick-sorts : (k : Line) (t : Tick)
     → runningTick k t .line .sorters
     ≡ allEntered (runningTick k t .outcome) (allTicked (k .sorters) (sorterSetups (k .setup))) (sorterSetups (k .setup))
-unfolding runningTick unlessNinth step4 step5
+unfolding runningTick unlessNinth onBench step4 step5
 tick-sorts k t =
-    let m = step5 (step4 k) t in
+    let m = step5 (step4 (onBench k t)) t in
     if-ind (Entered m) (ninthSignal k t) _ _
     (λ _. sym (none-entered 0 refl (m .sorters) (sorterSetups (m .setup))))
     (λ _. seven-entered m (step6 m t) t (six-sorted m t))

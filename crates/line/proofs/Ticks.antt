@@ -1,33 +1,36 @@
 -- A sample and the other events on the line alone: the line stays fit and keeps its code and its chance to cancel, the boxes are
 -- level, the net is a weight. Assumes nothing.
 use mathlib.Core.Path.{_≡_, refl, sym, subst, _∙_}
-use mathlib.Core.Bool.{Bool, true, false, _&&_}
+use mathlib.Core.Bool.{Bool, true, false, _&&_, not}
 use mathlib.Core.Logic.{_⊎_, inl, inr, ⊎-elim}
 use Prim.Native.Nat.{ℕ}
 use lib.Dec.{eqb, T}
 use lib.IntN.{ℤ, pos, _-ℤ_}
 use lib.Signed.{leZ}
-use borrow.Author.Tests.{eqb-true}
+use borrow.Author.Tests.{eqb-true, not-true}
 use Rattle.laws.specs.Choice.{if_then_else_, bit}
 use Rattle.weight.specs.Weight.{isWeight}
-use Rattle.laws.proofs.Tests.{both, if-ind}
+use Rattle.laws.proofs.Tests.{both, if-ind, never}
 use Rattle.mask.specs.Bits.{marked, lowestOff}
 use Rattle.settings.specs.Settings.{recordFit}
 use Rattle.settings.specs.Grade.{gradeOf}
 use Rattle.settings.specs.declared.Settings.{Settings}
 use Rattle.settings.proofs.Facts.{net-weight}
+use Rattle.bench.specs.Bench.{begun, detects, disarmed}
+use Rattle.bench.proofs.Grosses.{begun-fit, disarmed-fit}
 use Rattle.detector.specs.Foreign.{due, oldestUsed}
 use Rattle.detector.proofs.Signals.{used-fit}
+use Rattle.event.specs.Setup.{isBench}
 use Rattle.event.specs.declared.Sample.{Sample}
 use Rattle.event.proofs.Facts.{timers, InRange}
 use Rattle.tally.specs.Tally.{isGrade}
 use Rattle.status.specs.Status.{stopped, running, paused, emergency, ninthError, errorKnown}
-use Rattle.line.specs.Line.{isRunning, busy, withStatus, withForeign, withItem}
+use Rattle.line.specs.Line.{isRunning, busy, withStatus, withForeign, withItem, withBench}
 use Rattle.event.specs.Reply.{noError}
 use Rattle.item.specs.Item.{inHand, itemFit, newItem}
 use Rattle.line.specs.Effect.{plain, halted, halting}
 use Rattle.line.specs.Verdict.{sortedFor, stoppedFor, given, orCrash, verdictOf, judged}
-use Rattle.line.specs.Sample.{step1, step2, step3, step4, step5, step6, step7, afterWeighing, detecting, ninthSignal, unlessNinth, runningTick, guarded, fromStep3, sampled, tickOf}
+use Rattle.line.specs.Sample.{step1, step2, step3, onBench, step4, step5, step6, step7, afterWeighing, boxTaken, detecting, bySensor, byHand, ninthSignal, unlessNinth, runningTick, guarded, fromStep3, sampled, tickOf}
 use Rattle.line.specs.Command.{ran, stopping, alarmed}
 use Rattle.line.specs.declared.sample.Tick.{Tick}
 use Rattle.line.specs.declared.line.Line.{Line}
@@ -37,7 +40,7 @@ use Rattle.item.specs.declared.Weighed.{Weighed}
 use Rattle.line.proofs.Facts.{FitLine}
 use Rattle.line.proofs.Moves as moves
 use Rattle.line.proofs.Moves.{Moves, Judged, grade-judged, foreign-judged, crash-judged}
-use Rattle.line.proofs.Keeps.{Running, running-status, error-none, with-item, with-foreign, with-paused, fit-step1, fit-step4, fit-step5, fit-sorted, fit-stopped, fit-stop, fit-emergency}
+use Rattle.line.proofs.Keeps.{Running, running-status, error-none, with-item, with-foreign, with-bench, with-paused, fit-step1, fit-on-bench, fit-step4, fit-step5, fit-sorted, fit-stopped, fit-stop, fit-emergency}
 use Rattle.item.proofs.Keeps.{Weighs, still, mean, weighing, new-fit, new-in-hand}
 
 abbrev pub hand : Line → ℕ
@@ -73,22 +76,24 @@ pub record Same (l m : Line) : Type 0 where
   pub undo : m .undo ≡ l .undo
   pub item : m .item ≡ l .item
   pub foreign : m .foreign ≡ l .foreign
+  pub setup : m .setup ≡ l .setup
+  pub bench : m .bench ≡ l .bench
 
 sorted-same : (l : Line) (v : ℕ) → Same l (sortedFor l v)
 unfolding sortedFor
-sorted-same l v = record { code = refl; undo = refl; item = refl; foreign = refl }
+sorted-same l v = record { code = refl; undo = refl; item = refl; foreign = refl; setup = refl; bench = refl }
 
 stopped-same : (l : Line) (v : ℕ) → Same l (stoppedFor l v)
 unfolding stoppedFor
 stopped-same l v =
-    if-ind (Same l) (marked (l .setup .stop) v) _ _ (λ _. record { code = refl; undo = refl; item = refl; foreign = refl }) (λ _. record { code = refl; undo = refl; item = refl; foreign = refl })
+    if-ind (Same l) (marked (l .setup .stop) v) _ _ (λ _. record { code = refl; undo = refl; item = refl; foreign = refl; setup = refl; bench = refl }) (λ _. record { code = refl; undo = refl; item = refl; foreign = refl; setup = refl; bench = refl })
 
 pub given-same : (l : Line) (d v : ℕ) (net : ℤ) → Same l (given l d v net .line)
 unfolding given
 given-same l d v net =
     let a = sorted-same l v in
     let b = stopped-same (sortedFor l v) v in
-    record { code = b .code ∙ a .code; undo = b .undo ∙ a .undo; item = b .item ∙ a .item; foreign = b .foreign ∙ a .foreign }
+    record { code = b .code ∙ a .code; undo = b .undo ∙ a .undo; item = b .item ∙ a .item; foreign = b .foreign ∙ a .foreign; setup = b .setup ∙ a .setup; bench = b .bench ∙ a .bench }
 
 gives : (l : Line) (d v : ℕ) (net : ℤ) → Running l → isWeight net ≡ true → Gives l d v (given l d v net)
 unfolding given
@@ -184,30 +189,17 @@ two-on-goes l e s h =
       net = g .net;
     }
 
--- a new item after step 6
-begun : (l k : Line) → Running k → k .code ≡ l .code → k .undo ≡ l .undo → (d o : ℕ) (x : ℤ) → d ≡ 1 → isWeight x ≡ true → Moves (hand l) 1 o 1 → Went l (record { line = withItem k (newItem (k .setup)); detected = d; outcome = o; net = x })
-begun l k r c u d o x e n v =
+-- a box taken after step 6
+taken-goes : (l k : Line) (e : Effect) → Running k → k .code ≡ l .code → k .undo ≡ l .undo → isWeight (e .net) ≡ true → Moves (hand l) 1 (e .outcome) 1 → Went l (boxTaken e k)
+unfolding boxTaken
+taken-goes l k e r c u n v =
     record {
       fit = with-item k (newItem (k .setup)) r (new-fit (k .setup) (timers (k .setup) (r .fit .setup))) .fit;
       code = c;
       undo = u;
-      boxes = rw (e, new-in-hand (k .setup)) v;
+      boxes = rw (new-in-hand (k .setup)) v;
       net = n;
     }
-
-stays-detecting : (l : Line) (e : Effect) → Stays l e → Went l (detecting e)
-unfolding detecting
-stays-detecting l e s =
-    if-ind (Went l) (inHand (e .line .item)) _ _
-    (λ h. two-on-goes l e s h)
-    (λ h. begun l (e .line) (s .run) (s .code) (s .undo) 1 (e .outcome) (e .net) refl (s .net) (rw (sym (s .same) ∙ h, s .outcome) moves.detected))
-
-ends-detecting : (l : Line) (e : Effect) → Ends l e → isRunning (e .line) ≡ true → Went l (detecting e)
-unfolding detecting
-ends-detecting l e s h =
-    rw (s .none)
-    (begun l (e .line) (to-running (e .line) (s .fit) h) (s .code) (s .undo) 1 (e .outcome) (e .net) refl (s .net)
-    (rw (s .was) (⊎-elim (λ j. moves.judged-next (e .outcome) j) (λ z. rw z moves.dismissed-next) (s .outcome))))
 
 stays-went : (l : Line) (e : Effect) → Stays l e → Went l e
 stays-went l e s =
@@ -229,12 +221,50 @@ ends-went l e s =
       net = s .net;
     }
 
+-- what step 7 can make of an effect: two-on, a box taken by the sensor or by hand, or nothing
+pub seven-ind :
+    (P : Effect → Type 0) (e : Effect) (t : Tick)
+    → (inHand (e .line .item) ≡ true → isRunning (e .line) ≡ true → isBench (e .line .setup) ≡ false → P (given (withItem (e .line) None) 1 7 (pos 0)))
+    → (inHand (e .line .item) ≡ false → isRunning (e .line) ≡ true → isBench (e .line .setup) ≡ false → P (boxTaken e (e .line)))
+    → (inHand (e .line .item) ≡ false → isRunning (e .line) ≡ true → isBench (e .line .setup) ≡ true → detects (e .line .bench) (t .gross) (t .active .nearzero) ≡ true
+    → P (boxTaken e (withBench (e .line) (disarmed (e .line .bench)))))
+    → P e
+    → P (step7 e t)
+unfolding step7 bySensor byHand detecting
+seven-ind P e t two box plate none =
+    if-ind P (isRunning (e .line)) _ _
+    (λ r. if-ind P (isBench (e .line .setup)) _ _
+    (λ m. if-ind P (not (inHand (e .line .item)) && detects (e .line .bench) (t .gross) (t .active .nearzero)) _ _
+    (λ h. let b = both (not (inHand (e .line .item))) (detects (e .line .bench) (t .gross) (t .active .nearzero)) h in plate (not-true _ (b .0)) r m (b .1))
+    (λ _. none))
+    (λ m. if-ind P (t .made) _ _
+    (λ _. if-ind P (inHand (e .line .item)) _ _ (λ h. two h r m) (λ h. box h r m))
+    (λ _. none)))
+    (λ _. none)
+
 seven : (l : Line) (e : Effect) (t : Tick) → Stays l e ⊎ Ends l e → Went l (step7 e t)
-unfolding step7
 seven l e t s =
-    if-ind (Went l) (isRunning (e .line) && t .made) _ _
-    (λ h. ⊎-elim (λ x. stays-detecting l e x) (λ x. ends-detecting l e x (both (isRunning (e .line)) (t .made) h .0)) s)
-    (λ _. ⊎-elim (λ x. stays-went l e x) (λ x. ends-went l e x) s)
+    ⊎-elim
+    (λ x. seven-ind (Went l) e t
+    (λ h _ _. two-on-goes l e x h)
+    (λ h _ _. taken-goes l (e .line) e (x .run) (x .code) (x .undo) (x .net) (stays-moves l e x h))
+    (λ h _ _ _. taken-goes l _ e (disarms (e .line) (x .run)) (x .code) (x .undo) (x .net) (stays-moves l e x h))
+    (stays-went l e x))
+    (λ x. seven-ind (Went l) e t
+    (λ h _ _. never (rw (x .none) at h))
+    (λ _ r _. taken-goes l (e .line) e (to-running (e .line) (x .fit) r) (x .code) (x .undo) (x .net) (ends-moves l e x))
+    (λ _ r _ _. taken-goes l _ e (disarms (e .line) (to-running (e .line) (x .fit) r)) (x .code) (x .undo) (x .net) (ends-moves l e x))
+    (ends-went l e x))
+    s
+  where
+    disarms : (k : Line) → Running k → Running (withBench k (disarmed (k .bench)))
+    disarms k r = with-bench k (disarmed (k .bench)) r (disarmed-fit (k .bench) (r .fit .bench))
+
+    stays-moves : (l : Line) (e : Effect) → Stays l e → inHand (e .line .item) ≡ false → Moves (hand l) 1 (e .outcome) 1
+    stays-moves l e x h = rw (sym (x .same) ∙ h, x .outcome) moves.detected
+
+    ends-moves : (l : Line) (e : Effect) → Ends l e → Moves (hand l) 1 (e .outcome) 1
+    ends-moves l e x = rw (x .was) (⊎-elim (λ j. moves.judged-next (e .outcome) j) (λ z. rw z moves.dismissed-next) (x .outcome))
 
 -- ---- a running tick, and a sample
 
@@ -247,10 +277,11 @@ pub plain-goes : (l k : Line) → FitLine k → k .code ≡ l .code → k .undo 
 plain-goes l k f c u i = record { fit = f; code = c; undo = u; boxes = rw i (moves.still (hand l)); net = refl }
 
 tick-goes : (l : Line) (t : Tick) → Running l → recordFit (t .active) ≡ true → isWeight (t .gross) ≡ true → Went l (runningTick l t)
-unfolding runningTick unlessNinth step4 step5 errorKnown
+unfolding runningTick unlessNinth onBench step4 step5 errorKnown
 tick-goes l t r f g =
-    let k = step5 (step4 l) t in
-    let run : Running k = fit-step5 (step4 l) t (fit-step4 l r) in
+    let b = onBench l t in
+    let k = step5 (step4 b) t in
+    let run : Running k = fit-step5 (step4 b) t (fit-step4 b (fit-on-bench l t r g)) in
     went-from k l _ refl refl refl
     (if-ind (Went k) (ninthSignal l t) _ _
     (λ _. plain-goes k (withStatus k paused ninthError) (with-paused k ninthError (run .fit) refl) refl refl refl)
@@ -313,17 +344,20 @@ sample-goes l a s f r g =
 pub run-goes : (l : Line) → FitLine l → Went l (ran l)
 unfolding ran
 run-goes l f =
-    plain-goes l (withStatus l running noError)
+    let b = begun (l .bench) (eqb (l .status) stopped) in
+    let k = withBench (withStatus l running noError) b in
+    plain-goes l k
     (record {
       code = f .code;
       setup = f .setup;
       last = f .last;
       sensor = f .sensor;
-      status = running-status (withStatus l running noError) refl refl;
+      status = running-status k refl refl;
       sorters = f .sorters;
       foreign = f .foreign;
       item = f .item;
       undo = f .undo;
+      bench = begun-fit (l .bench) (eqb (l .status) stopped);
     })
     refl refl refl
 

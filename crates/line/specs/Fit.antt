@@ -9,6 +9,7 @@ use Rattle.event.specs.Sample.{lastFit}
 use Rattle.settings.specs.Settings.{isCode}
 use Rattle.item.specs.Item.{itemFit}
 use Rattle.undo.specs.Undo.{undoFit}
+use Rattle.bench.specs.Bench.{benchFit}
 use Rattle.status.specs.Status.{stopped, paused, emergency, errorKnown}
 use Rattle.line.specs.Line.{busy}
 use Rattle.event.specs.Reply.{noError}
@@ -25,4 +26,4 @@ unfoldable pub lineFit : Line → Bool
 lineFit l =
     isCode (l .code) && setupFit (l .setup) && lastFit (l .last) && sensorFit (l .sensor)
     && statusFit l && allFit (l .sorters) && foreignFit (l .foreign)
-    && itemFit (l .item) (l .setup) && undoFit (l .undo)
+    && itemFit (l .item) (l .setup) && undoFit (l .undo) && benchFit (l .bench)

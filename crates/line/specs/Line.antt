@@ -6,6 +6,8 @@ use lib.Dec.{eqb}
 use lib.IntN.{pos}
 use Rattle.laws.specs.Choice.{if_then_else_}
 use Rattle.status.specs.Status.{stopped, running, conveyorRuns}
+use Rattle.bench.specs.Bench.{freshBench}
+use Rattle.bench.specs.declared.Bench.{Bench}
 use Rattle.sorters.specs.Sorters.{anySorting, onBits, allOff}
 use Rattle.detector.specs.Foreign.{noSignal}
 use Rattle.device.specs.declared.sensor.Sensor.{Sensor}
@@ -51,6 +53,7 @@ freshLine =
       item = None;
       sorters = allOff;
       undo = nothing;
+      bench = freshBench;
     }
 
 -- ---- the line with a part anew
@@ -68,6 +71,7 @@ withStatus l s e =
       item = l .item;
       sorters = l .sorters;
       undo = l .undo;
+      bench = l .bench;
     }
 
 abbrev pub withCode : Line → ℕ → Line
@@ -83,6 +87,7 @@ withCode l c =
       item = l .item;
       sorters = l .sorters;
       undo = l .undo;
+      bench = l .bench;
     }
 
 abbrev pub withSetup : Line → Setup → Line
@@ -98,6 +103,7 @@ withSetup l s =
       item = l .item;
       sorters = l .sorters;
       undo = l .undo;
+      bench = l .bench;
     }
 
 abbrev pub withSensed : Line → Sensor → Last → Line
@@ -113,6 +119,7 @@ withSensed l s k =
       item = l .item;
       sorters = l .sorters;
       undo = l .undo;
+      bench = l .bench;
     }
 
 abbrev pub withForeign : Line → Foreign → Line
@@ -128,6 +135,7 @@ withForeign l f =
       item = l .item;
       sorters = l .sorters;
       undo = l .undo;
+      bench = l .bench;
     }
 
 abbrev pub withItem : Line → Item → Line
@@ -143,6 +151,7 @@ withItem l i =
       item = i;
       sorters = l .sorters;
       undo = l .undo;
+      bench = l .bench;
     }
 
 abbrev pub withSorters : Line → List Sorter → Line
@@ -158,6 +167,7 @@ withSorters l ss =
       item = l .item;
       sorters = ss;
       undo = l .undo;
+      bench = l .bench;
     }
 
 abbrev pub withUndo : Line → Undo → Line
@@ -173,4 +183,21 @@ withUndo l u =
       item = l .item;
       sorters = l .sorters;
       undo = u;
+      bench = l .bench;
+    }
+
+abbrev pub withBench : Line → Bench → Line
+withBench l b =
+    record {
+      status = l .status;
+      error = l .error;
+      code = l .code;
+      setup = l .setup;
+      sensor = l .sensor;
+      last = l .last;
+      foreign = l .foreign;
+      item = l .item;
+      sorters = l .sorters;
+      undo = l .undo;
+      bench = b;
     }

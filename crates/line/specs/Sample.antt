@@ -1,6 +1,6 @@
--- 01, "Sample": the seven steps in order, and where error 7 ends a tick.
+-- 01, "Sample": the seven steps in order, where error 7 ends a tick, and bench mode.
 use Prim.Native.Nat.{ℕ}
-use mathlib.Core.Bool.{Bool, true, _&&_}
+use mathlib.Core.Bool.{Bool, true, _&&_, not}
 use mathlib.Core.Path.{_≡_}
 use lib.Dec.{eqb}
 use lib.IntN.{pos}
@@ -12,14 +12,15 @@ use Rattle.settings.specs.declared.Settings.{Settings}
 use Rattle.device.specs.Sensor.{settled}
 use Rattle.sorters.specs.Sorters.{allTicked}
 use Rattle.detector.specs.Foreign.{eightCarried, foreignTicked}
-use Rattle.event.specs.Setup.{setupFit, sorterSetups}
+use Rattle.event.specs.Setup.{setupFit, isBench, sorterSetups}
 use Rattle.event.specs.declared.Sample.{Sample}
+use Rattle.bench.specs.Bench.{tickedOn, detects, disarmed}
 use Rattle.status.specs.Status.{stopped, paused, emergency, unsafeError, ninthError}
 use Rattle.item.specs.Item.{inHand, itemFit, newItem, weighed}
 use Rattle.item.specs.declared.Item.the-variants.{None}
 use Rattle.item.specs.declared.Weighed.{Weighed}
 use Rattle.item.specs.declared.Weighed.the-variants.{Still, Mean}
-use Rattle.line.specs.Line.{isRunning, withStatus, withSensed, withForeign, withItem, withSorters}
+use Rattle.line.specs.Line.{isRunning, withStatus, withSensed, withForeign, withItem, withSorters, withBench}
 use Rattle.line.specs.Effect.{plain, halting}
 use Rattle.line.specs.Verdict.{given, judged}
 use Rattle.line.specs.declared.sample.Tick.{Tick}
@@ -68,6 +69,10 @@ step2 l level =
 unfoldable pub step3 : Line → Line
 step3 l = if eqb (lowestOff (l .setup .need) (l .last .safety)) 0 then l else withStatus l paused unsafeError
 
+-- 02, T-02: in mode 4 "a running tick with gross ≤ nearzero" arms, and its gross is one of "the last 10"
+unfoldable pub onBench : Line → Tick → Line
+onBench l t = withBench l (if isBench (l .setup) then tickedOn (l .bench) (t .gross) (t .active .nearzero) else l .bench)
+
 -- 4. the on-times and waits of the sorters
 unfoldable pub step4 : Line → Line
 step4 l = withSorters l (allTicked (l .sorters) (sorterSetups (l .setup)))
@@ -84,15 +89,28 @@ afterWeighing l a (Mean m) = judged (withItem l None) a m
 unfoldable pub step6 : Line → Tick → Effect
 step6 l t = afterWeighing l (t .active) (weighed (l .item) (l .setup) (t .gross))
 
+-- the effect with a box detected: a new item in hand on this line
+unfoldable pub boxTaken : Effect → Line → Effect
+boxTaken e l = record { line = withItem l (newItem (l .setup)); detected = 1; outcome = e .outcome; net = e .net }
+
 -- "detected. With an item in hand, both become one two-on verdict and nothing is in hand."
 unfoldable pub detecting : Effect → Effect
-detecting e =
-    if inHand (e .line .item) then given (withItem (e .line) None) 1 7 (pos 0)
-    else record { line = withItem (e .line) (newItem (e .line .setup)); detected = 1; outcome = e .outcome; net = e .net }
+detecting e = if inHand (e .line .item) then given (withItem (e .line) None) 1 7 (pos 0) else boxTaken e (e .line)
 
--- 7. "If still running and the settled level made the chosen edge in step 1"
+-- "and the settled level made the chosen edge in step 1"
+unfoldable pub bySensor : Effect → Tick → Effect
+bySensor e t = if t .made then detecting e else e
+
+-- T-02: "an armed line still running and with nothing in hand detects a box when .."; "Detection disarms."
+unfoldable pub byHand : Effect → Tick → Effect
+byHand e t =
+    if not (inHand (e .line .item)) && detects (e .line .bench) (t .gross) (t .active .nearzero)
+    then boxTaken e (withBench (e .line) (disarmed (e .line .bench))) else e
+
+-- 7. "If still running"; T-02: "Mode 4 .. detects nothing by the sensor"
 unfoldable pub step7 : Effect → Tick → Effect
-step7 e t = if isRunning (e .line) && t .made then detecting e else e
+step7 e t =
+    if isRunning (e .line) then (if isBench (e .line .setup) then byHand e t else bySensor e t) else e
 
 -- 02, T-04: "A change 0 to 1 with eight carried, ended ones included"; that delays fall alters no number of signals
 unfoldable pub ninthSignal : Line → Tick → Bool
@@ -104,7 +122,7 @@ unlessNinth ninth l t = if ninth then plain (withStatus l paused ninthError) els
 
 -- "Else it is a running tick": steps 4 to 7
 unfoldable pub runningTick : Line → Tick → Effect
-runningTick l t = unlessNinth (ninthSignal l t) (step5 (step4 l) t) t
+runningTick l t = unlessNinth (ninthSignal l t) (step5 (step4 (onBench l t)) t) t
 
 -- step 3, and a running tick if it did not end the sample
 unfoldable pub guarded : Line → Tick → Effect

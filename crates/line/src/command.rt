@@ -8,7 +8,12 @@ impl Line {
     pub(crate) fn ran(self) -> Effect
         ensures { λ r. ⌜ r ≡ ran self ⌝ }
     {
-        Effect::plain(self.with_status(Line::RUNNING, Line::NO_ERROR))
+        let bench = self.bench;
+        let next = bench.begun(self.status == Line::STOPPED);
+        Effect::plain(
+            self.with_status(Line::RUNNING, Line::NO_ERROR)
+                .with_bench(next),
+        )
     }
 
     pub(crate) fn stopping(self) -> Effect

@@ -31,6 +31,7 @@ impl Line {
         let foreign = self.foreign;
         let item = self.item;
         let undo = self.undo;
+        let bench = self.bench;
         is_code(self.code)
             & setup.fit()
             & last.fit()
@@ -40,5 +41,6 @@ impl Line {
             & foreign.fit()
             & item.fit(setup)
             & undo.fit()
+            & bench.fit()
     }
 }

@@ -1,6 +1,7 @@
 // The line's record. An event takes it and gives back the next one.
 ghost use mathlib.Core.Path.{_≡_};
-ghost use Rattle.line.specs.Line.{busy, conveyor, sorterField, freshLine, withStatus, withCode, withSetup, withSensed, withForeign, withItem, withSorters, withUndo};
+ghost use Rattle.line.specs.Line.{busy, conveyor, sorterField, freshLine, withStatus, withCode, withSetup, withSensed, withForeign, withItem, withSorters, withUndo, withBench};
+use bench::Bench;
 use detector::Foreign;
 use device::Sensor;
 use device::Sorter;
@@ -16,7 +17,7 @@ use status::conveyor_runs;
 use tally::Tally;
 use undo::Undo;
 
-// What stands behind the item is copied with the seven bytes behind its tag, as a block: so the undo stands before it.
+// What stands behind the item is copied with the seven bytes behind its tag, as a block: so the undo and the bench stand before it.
 pub struct Line {
     pub status: u64,
     pub error: u64,
@@ -26,6 +27,7 @@ pub struct Line {
     pub last: Last,
     pub foreign: Foreign,
     pub undo: Undo,
+    pub bench: Bench,
     pub item: Item,
     // sorter k stands at k - 1
     pub sorters: [Sorter; Setup::SORTERS],
@@ -77,6 +79,7 @@ impl Line {
             },
             foreign: Foreign::none(),
             undo: Undo::nothing(),
+            bench: Bench::fresh(),
             item: Item::None,
             sorters: all_off(),
         }
@@ -171,6 +174,7 @@ impl Line {
         let foreign = self.foreign;
         let sorters = self.sorters;
         let undo = self.undo;
+        let bench = self.bench;
         Line {
             status: self.status,
             error: self.error,
@@ -180,6 +184,7 @@ impl Line {
             last: last,
             foreign: foreign,
             undo: undo,
+            bench: bench,
             item: item,
             sorters: sorters,
         }
@@ -189,6 +194,13 @@ impl Line {
         ensures { λ r. ⌜ r ≡ withUndo self undo ⌝ }
     {
         self.undo = undo;
+        self
+    }
+
+    pub(crate) fn with_bench(mut self, bench: Bench) -> Line
+        ensures { λ r. ⌜ r ≡ withBench self bench ⌝ }
+    {
+        self.bench = bench;
         self
     }
 }

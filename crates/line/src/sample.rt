@@ -4,11 +4,12 @@ ghost use mathlib.Core.Bool.{true};
 ghost use Rattle.settings.specs.Settings.{recordFit};
 ghost use Rattle.event.specs.Sample.{sampleRanged};
 ghost use Rattle.line.specs.Fit.{lineFit};
-ghost use Rattle.line.specs.Sample.{Ready, step1, edgeMade, foreignRises, step4, step5, step6, detecting, step7, ninthSignal, runningTick, sampled};
+ghost use Rattle.line.specs.Sample.{Ready, step1, edgeMade, foreignRises, onBench, step4, step5, step6, boxTaken, detecting, byHand, step7, ninthSignal, runningTick, sampled};
 use crate::effect::Effect;
 use crate::line::Line;
 use event::Last;
 use event::Sample;
+use event::Setup;
 use item::Item;
 use item::Weighed;
 use item::new_item;
@@ -55,6 +56,18 @@ impl Line {
         self.with_sensed(settled, last)
     }
 
+    // In bench mode a running tick's gross is kept, and up to nearzero it arms.
+    fn on_bench(self, tick: Tick) -> Line
+        ensures { λ r. ⌜ r ≡ onBench self tick ⌝ }
+    {
+        if self.setup.mode != Setup::BENCH {
+            return self;
+        }
+        let bench = self.bench;
+        let next = bench.ticked(tick.gross, tick.active.nearzero);
+        self.with_bench(next)
+    }
+
     // The sorters' times.
     fn step4(self) -> Line
         ensures { λ r. ⌜ r ≡ step4 self ⌝ }
@@ -88,25 +101,27 @@ impl Line {
         }
     }
 
-    // A detected box, alone or with one in hand.
+    // A box is detected: in bench mode by its weight, else by the sensor.
     fn step7(e: Effect, tick: Tick) -> Effect
         ensures { λ r. ⌜ r ≡ step7 e tick ⌝ }
     {
         let line = e.line;
-        if (line.status == Line::RUNNING) & tick.made {
+        if line.status != Line::RUNNING {
+            return e;
+        }
+        if line.setup.mode == Setup::BENCH {
+            return Line::by_hand(e, tick);
+        }
+        if tick.made {
             return Line::detecting(e);
         }
         e
     }
 
-    fn detecting(e: Effect) -> Effect
-        ensures { λ r. ⌜ r ≡ detecting e ⌝ }
+    // The effect with a new item in hand on this line.
+    fn box_taken(e: Effect, line: Line) -> Effect
+        ensures { λ r. ⌜ r ≡ boxTaken e line ⌝ }
     {
-        let line = e.line;
-        let item = line.item;
-        if item.in_hand() {
-            return line.with_item(Item::None).given(1, 7, 0);
-        }
         let setup = line.setup;
         let next = line.with_item(new_item(setup));
         Effect {
@@ -115,6 +130,32 @@ impl Line {
             outcome: e.outcome,
             net: e.net,
         }
+    }
+
+    // With nothing in hand an armed line detects a box that lies still, and is disarmed.
+    fn by_hand(e: Effect, tick: Tick) -> Effect
+        ensures { λ r. ⌜ r ≡ byHand e tick ⌝ }
+    {
+        let line = e.line;
+        let item = line.item;
+        let bench = line.bench;
+        if !item.in_hand() & bench.detects(tick.gross, tick.active.nearzero) {
+            let next = line.with_bench(bench.disarmed());
+            return Line::box_taken(e, next);
+        }
+        e
+    }
+
+    // A detected box, alone or with one in hand.
+    fn detecting(e: Effect) -> Effect
+        ensures { λ r. ⌜ r ≡ detecting e ⌝ }
+    {
+        let line = e.line;
+        let item = line.item;
+        if item.in_hand() {
+            return line.with_item(Item::None).given(1, 7, 0);
+        }
+        Line::box_taken(e, line)
     }
 
     // The level rose with as many signals carried as can be.
@@ -131,7 +172,7 @@ impl Line {
         ensures { λ r. ⌜ r ≡ runningTick self tick ⌝ }
     {
         let ninth = self.ninth_signal(tick);
-        let next = self.step4().step5(tick);
+        let next = self.on_bench(tick).step4().step5(tick);
         if ninth {
             return Effect::plain(next.with_status(Line::PAUSED, status::NINTH_SIGNAL));
         }

@@ -12,7 +12,7 @@ use lib.Seq.{drop-cons, getD-take, length-take-le}
 use borrow.Author.Tests.{lt-ltb}
 use Rattle.laws.specs.Choice.{if_then_else_, bit}
 use Rattle.laws.proofs.Tests.{both, and-intro, if-ind, by-cases, never}
-use Rattle.lists.specs.Each.{anyOf, allOf, counted, without, withoutFirst}
+use Rattle.lists.specs.Each.{anyOf, allOf, counted, without, withoutFirst, folded}
 
 -- what is left from place i on, one step further
 pub rest : {A : Type 0} (l : List A) (i : ℕ) (d : A) → i < length l → drop i l ≡ getD l i d ∷ drop (i + 1) l
@@ -149,3 +149,23 @@ module _ {A : Type 0} (p : A → Bool) where
   unfolding anyOf withoutFirst
   first-stays [] x h = rw h
   first-stays (y ∷ l) x h = by-cases (p y) (λ e. rw e) (λ e. rw (e, first-stays l x (rw e at h)))
+
+-- ---- a list made one by a rule of two
+
+module _ {A : Type 0} (f : A → A → A) where
+  pub folded-next : (l : List A) (i : ℕ) (x d : A) → i < length l → folded f x (drop i l) ≡ folded f (f x (getD l i d)) (drop (i + 1) l)
+  unfolding folded
+  folded-next l i x d h = rw (rest l i d h)
+
+  pub folded-end : (l : List A) (i : ℕ) (x : A) → length l ≤ i → folded f x (drop i l) ≡ x
+  unfolding folded
+  folded-end l i x h = rw (drop-of-length-le l {i = i} h)
+
+  -- where the rule keeps a fitness p, the one has it
+  pub folded-keeps :
+      (p : A → Bool) → ((x y : A) → p x ≡ true → p y ≡ true → p (f x y) ≡ true)
+      → (l : List A) (x : A) → p x ≡ true → allOf p l ≡ true → p (folded f x l) ≡ true
+  unfolding allOf folded
+  folded-keeps p one [] x h g = h
+  folded-keeps p one (y ∷ l) x h g =
+      let b = both (p y) (allOf p l) g in folded-keeps p one l (f x y) (one x y h (b .0)) (b .1)

@@ -40,3 +40,8 @@ without p (x ∷ xs) = if p x then without p xs else x ∷ without p xs
 unfoldable pub withoutFirst : {A : Type 0} → (A → Bool) → List A → List A
 withoutFirst p [] = []
 withoutFirst p (x ∷ xs) = if p x then xs else x ∷ withoutFirst p xs
+
+-- x and the list made one by a rule of two
+unfoldable pub folded : {A : Type 0} → (A → A → A) → A → List A → A
+folded f x [] = x
+folded f x (y ∷ l) = folded f (f x y) l

@@ -3,6 +3,7 @@ use Prim.Native.Nat.{ℕ}
 use mathlib.Core.Bool.{Bool, _&&_, _||_, not}
 use lib.Dec.{eqb}
 use Rattle.laws.specs.Choice.{if_then_else_}
+use Rattle.event.specs.Setup.{benchMode}
 use Rattle.event.specs.Reply.{noError}
 
 -- "Status: 0 stopped, 1 running, 2 paused, 3 emergency."
@@ -39,6 +40,6 @@ errorKnown e =
 unfoldable pub errorFor : ℕ → ℕ
 errorFor v = if eqb v 7 then 2 else (if eqb v 6 then 5 else (if eqb v 8 then 6 else plainError))
 
--- "Conveyor is 1 when running, in mode 2 only with nothing in hand."
+-- "Conveyor is 1 when running, in mode 2 only with nothing in hand."; 02, T-02: "Mode 4 keeps the conveyor at 0"
 unfoldable pub conveyorRuns : ℕ → ℕ → Bool → Bool
-conveyorRuns status mode inHand = eqb status running && not (eqb mode 2 && inHand)
+conveyorRuns status mode inHand = eqb status running && not (eqb mode benchMode) && not (eqb mode 2 && inHand)

@@ -2,6 +2,7 @@
 ghost use mathlib.Core.Path.{_≡_};
 ghost use Rattle.status.specs.Status.{errorKnown, errorFor, conveyorRuns};
 use event::Done;
+use event::Setup;
 
 pub const STOPPED: u64 = 0;
 
@@ -56,5 +57,5 @@ pub fn error_for(verdict: u64) -> u64
 pub fn conveyor_runs(status: u64, mode: u64, hand: bool) -> bool
     ensures { λ r. ⌜ r ≡ conveyorRuns status mode hand ⌝ }
 {
-    (status == RUNNING) & !((mode == 2) & hand)
+    (status == RUNNING) & (mode != Setup::BENCH) & !((mode == 2) & hand)
 }

@@ -39,7 +39,7 @@ pub struct Sample {
 
 #[derive(Clone, Copy, Debug, PartialEq, Eq)]
 pub struct Setup {
-    /// 1 through mode, 2 stop mode.
+    /// 1 through mode, 2 stop mode, 4 bench mode.
     pub mode: i64,
     /// 1 off to on, 2 on to off.
     pub edge: i64,
@@ -127,7 +127,7 @@ impl Setup {
     };
 
     pub fn in_range(&self) -> bool {
-        (1..=2).contains(&self.mode)
+        [1, 2, 4].contains(&self.mode)
             && (1..=2).contains(&self.edge)
             && [self.tc, self.tw, self.tf].iter().all(|t| (0..=TIMER).contains(t))
             && (1..=TIMER).contains(&self.ta)
@@ -135,9 +135,15 @@ impl Setup {
             && [self.stop, self.need].into_iter().all(is_mask)
     }
 
-    /// Mode 2 needs edge 2.
+    /// Mode 2 needs edge 2; in mode 4 nothing is sorted.
     pub fn contradicts(&self) -> bool {
-        self.mode == 2 && self.edge == 1
+        let sorts = self.sorters.iter().any(|set| set.sort != 0);
+        self.mode == 2 && self.edge == 1 || self.is_bench() && sorts
+    }
+
+    /// Boxes are lifted on by hand.
+    pub fn is_bench(&self) -> bool {
+        self.mode == 4
     }
 }
 

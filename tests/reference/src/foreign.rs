@@ -19,11 +19,15 @@ impl Foreign {
         if !change {
             return true;
         }
-        let room = self.signals.len() < Foreign::MOST;
+        let room = !self.is_full();
         if room {
             self.signals.push(tf);
         }
         room
+    }
+
+    pub fn is_full(&self) -> bool {
+        self.signals.len() == Foreign::MOST
     }
 
     /// Uses up the oldest signal that has ended. False when none has.

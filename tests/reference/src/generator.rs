@@ -5,6 +5,7 @@ pub mod damage;
 pub mod exits;
 pub mod limit;
 pub mod mixed;
+pub mod plate;
 pub mod random;
 pub mod samples;
 

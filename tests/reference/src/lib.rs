@@ -4,6 +4,7 @@
 //! another program and to be the baseline of its speed. Its line and memory
 //! are its own and always fit, so refusal 8 (memory) cannot occur in it.
 
+pub mod bench;
 pub mod event;
 pub mod exits;
 pub mod foreign;

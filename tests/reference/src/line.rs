@@ -1,5 +1,6 @@
 //! The line: its record, the reply, and every event but the sample.
 
+use crate::bench::Bench;
 use crate::event::{is_code, Event, Settings, Setup, SORTERS};
 use crate::foreign::Foreign;
 use crate::memory::Memory;
@@ -40,6 +41,7 @@ pub struct Line {
     pub safety: i64,
     pub foreign: Foreign,
     pub item: Item,
+    pub bench: Bench,
     pub sorters: [Sorter; SORTERS],
     pub error: Option<u8>,
     /// The active tally as before the last verdict: the chance to cancel.
@@ -85,6 +87,7 @@ impl Line {
             safety: 255,
             foreign: Foreign::default(),
             item: Item::None,
+            bench: Bench::default(),
             sorters: [Sorter::default(); SORTERS],
             error: None,
             kept: None,
@@ -115,10 +118,19 @@ impl Line {
         Reply {
             status: self.status,
             busy: !empty || self.is_sorting(),
-            conveyor: running && (self.setup.mode == 1 || empty),
+            conveyor: running && self.conveys(empty),
             sorter: if running { self.sorters_on() } else { 0 },
             done,
             error: self.error,
+        }
+    }
+
+    /// Whether the conveyor of a running line moves.
+    fn conveys(&self, empty: bool) -> bool {
+        match self.setup.mode {
+            1 => true,
+            2 => empty,
+            _ => false, // bench mode
         }
     }
 
@@ -162,6 +174,7 @@ impl Line {
         if self.status == Status::Stopped && self.gross > nearzero {
             return Err(Refusal::OCCUPIED);
         }
+        self.bench.run(self.status == Status::Stopped);
         self.status = Status::Running;
         self.error = None;
         Ok(Done::default())

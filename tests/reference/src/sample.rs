@@ -21,6 +21,9 @@ impl Line {
             self.pause(1); // step 3
             return Ok(Done::default());
         }
+        if self.setup.is_bench() {
+            self.bench.tick(self.gross, memory.settings[self.code].nearzero);
+        }
         for (sorter, set) in self.sorters.iter_mut().zip(&self.setup.sorters) {
             sorter.tick(set.to); // step 4
         }
@@ -29,7 +32,7 @@ impl Line {
             return Ok(Done::default());
         }
         let weighed = self.weigh(memory); // step 6
-        if edge && self.status == Status::Running {
+        if self.status == Status::Running && self.has_box(memory, edge) {
             return Ok(self.detect(memory, weighed)); // step 7
         }
         Ok(weighed)
@@ -88,7 +91,16 @@ impl Line {
         Item::Averaging { left: self.setup.ta, sum: 0 }
     }
 
-    /// Step 7: a new item in hand, beside what step 6 did; with an item still
+    /// Step 7: whether a box is there to detect, by the sensor's edge or lifted on by hand.
+    fn has_box(&mut self, memory: &Memory, edge: bool) -> bool {
+        if !self.setup.is_bench() {
+            return edge;
+        }
+        let nearzero = memory.settings[self.code].nearzero;
+        self.item == Item::None && self.bench.detects(self.gross, nearzero)
+    }
+
+    /// A new item in hand, beside what step 6 did; with an item still
     /// in hand, both become one two-on verdict.
     fn detect(&mut self, memory: &mut Memory, weighed: Done) -> Done {
         if self.item != Item::None {

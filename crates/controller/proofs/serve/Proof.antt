@@ -292,7 +292,7 @@ module _ {M : Type 1} (𝓤 : URA M) (H : Heap 𝓤) (A : Atoms 𝓤) (W : Given
         use2 W (raw (ReadLine 𝓤 H A mem run .pre (to-read 𝓤 H A mem run W κ₂ q₂ b₂ o₂ (length tx) γ₂ tx))) (asks-read 𝓤 H A mem run W κ₂ q₂ b₂ o₂ (length tx) γ₂ tx) $
         calls-at ! fm (ReadLine 𝓤 H A mem run) known-read (to-read 𝓤 H A mem run W κ₂ q₂ b₂ o₂ (length tx) γ₂ tx) (and-then ! (load ! (from ! (stop !)) (look ! 48 refl)) (no-more !)) (λ w.
         use1 W (later (given (w ≡ D′.lowered said) (given (Is D.the-row said (D′.lowered said ∷ [])) (‵ (flft κ₂ q₂))))) (ended-read 𝓤 H A mem run W κ₂ q₂ b₂ o₂ (length tx) γ₂ tx w) $ await ! tt $ learn ! (λ e. learn ! (λ said-is. move ! (2 ∷ 3 ∷ 4 ∷ 5 ∷ 1 ∷ 0 ∷ []) $
-        lands-at ! e $ land ! (from ! (stop !)) (init ! 42 refl (EL.lawful D.the-type D′.the-laws 𝓤 H A W tt .typed said _ said-is .0)) $
+        lands-at ! e $ land ! (from ! (stop !)) (init ! 42 {τ = ReadTy} {v = D′.lowered said} refl (EL.lawful D.the-type D′.the-laws 𝓤 H A W tt .typed said _ said-is .0)) $
         recell ! 42 (v .1 .val) refl $
         first ! $ switches ! (load ! (from ! (tag-place ! event-field)) (tag-cell ! 42 refl)) (
           (λ _. assigns-last ! (of-opd ! (load ! (from ! (field-place ! event-field)) (field-cell ! 42 event-field refl))) (from ! (stop !))
@@ -305,7 +305,7 @@ module _ {M : Type 1} (𝓤 : URA M) (H : Heap 𝓤) (A : Atoms 𝓤) (W : Given
               assigns ! (agg ! (and-then ! (load ! (from ! (stop !)) (look ! 14 refl)) (and-then ! (load ! (from ! (fld ! refl (stop !))) (look-in ! 50 (sub ! 1 refl (whole !)))) (no-more !)))) (from ! (stop !)) (init ! 12 refl (tt, (tt, (record { fits = room₁ .0 }, tt)))) $
               use4 W (raw (Apply 𝓤 H A mem run .pre (to-apply 𝓤 H A mem run W κ κ₁ q q₁ b o (length ys) γ ys b₁ o₁ (length ts) γ₁ ts line (v .0) lv (v .1 .value) line-is (v .1 .holds said-is)))) (asks-apply 𝓤 H A mem run W κ κ₁ q q₁ b o (length ys) γ ys b₁ o₁ (length ts) γ₁ ts line (v .0) lv (v .1 .value) line-is (v .1 .holds said-is)) $
               -- [what `apply` asks; the text; κ₂'s token; the output; κ₃'s; _24; …]
-              calls-at ! fm (Apply 𝓤 H A mem run) known-apply (to-apply 𝓤 H A mem run W κ κ₁ q q₁ b o (length ys) γ ys b₁ o₁ (length ts) γ₁ ts line (v .0) lv (v .1 .value) line-is (v .1 .holds said-is)) (and-then ! (load ! (from ! (stop !)) (look ! 51 refl)) (and-then ! (load ! (from ! (stop !)) (look ! 13 refl)) (and-then ! (load ! (from ! (stop !)) (look ! 9 refl)) (and-then ! (load ! (from ! (stop !)) (look ! 37 refl)) (no-more !))))) (λ w₁.
+              calls-at ! fm (Apply 𝓤 H A mem run) known-apply (to-apply 𝓤 H A mem run W κ κ₁ q q₁ b o (length ys) γ ys b₁ o₁ (length ts) γ₁ ts line (v .0) lv (v .1 .value) line-is (v .1 .holds said-is)) (and-then ! (load ! (from ! (stop !)) (look ! 51 {τ = LineTy} {v = lv} refl)) (and-then ! (load ! (from ! (stop !)) (look ! 13 refl)) (and-then ! (load ! (from ! (stop !)) (look ! 9 refl)) (and-then ! (load ! (from ! (stop !)) (look ! 37 {τ = EventTy} {v = v .1 .value} refl)) (no-more !))))) (λ w₁.
               use1 W (later (some (λ (made : Step). some (λ (xs : List Settings). some (λ (ws : List ℤ). given (made ≡ stepIn (outOn (state line ys ts) (v .0))) (given (xs ≡ stepOn (state line ys ts) (v .0) .state .settings) (given (ws ≡ stepOn (state line ys ts) (v .0) .state .tallies)
               (given (Is N.the-row made (w₁ ∷ [])) (given (length xs ≡ length ys) (given (length ws ≡ length ts) (‵ (finally R γ xs) ⊛ (‵ (flft κ q) ⊛ (‵ (finally i64 γ₁ ws) ⊛ ‵ (flft κ₁ q₁))))))))))))))
               (ended-apply 𝓤 H A mem run W κ κ₁ q q₁ b o (length ys) γ ys b₁ o₁ (length ts) γ₁ ts line (v .0) lv (v .1 .value) line-is (v .1 .holds said-is) w₁) $ await ! tt $ pick ! (λ made. pick ! (λ xs. pick ! (λ ws. learn ! (λ d. learn ! (λ d₁. learn ! (λ d₂. learn ! (λ made-is. learn ! (λ m. learn ! (λ m₁.
@@ -355,7 +355,7 @@ module _ {M : Type 1} (𝓤 : URA M) (H : Heap 𝓤) (A : Atoms 𝓤) (W : Given
         use2 W (raw (ReadLine 𝓤 H A mem run .pre (to-read 𝓤 H A mem run W κ₂ q₂ b₂ o₂ (length tx) γ₂ tx))) (asks-read 𝓤 H A mem run W κ₂ q₂ b₂ o₂ (length tx) γ₂ tx) $
         calls-at ! fm (ReadLine 𝓤 H A mem run) known-read (to-read 𝓤 H A mem run W κ₂ q₂ b₂ o₂ (length tx) γ₂ tx) (and-then ! (load ! (from ! (stop !)) (look ! 48 refl)) (no-more !)) (λ w.
         use1 W (later (given (w ≡ D′.lowered said) (given (Is D.the-row said (D′.lowered said ∷ [])) (‵ (flft κ₂ q₂))))) (ended-read 𝓤 H A mem run W κ₂ q₂ b₂ o₂ (length tx) γ₂ tx w) $ await ! tt $ learn ! (λ e. learn ! (λ said-is. move ! (2 ∷ 3 ∷ 4 ∷ 5 ∷ 1 ∷ 0 ∷ []) $
-        lands-at ! e $ land ! (from ! (stop !)) (init ! 42 refl (EL.lawful D.the-type D′.the-laws 𝓤 H A W tt .typed said _ said-is .0)) $
+        lands-at ! e $ land ! (from ! (stop !)) (init ! 42 {τ = ReadTy} {v = D′.lowered said} refl (EL.lawful D.the-type D′.the-laws 𝓤 H A W tt .typed said _ said-is .0)) $
         recell ! 42 (r .tagged .val) refl $
         first ! $ switches ! (load ! (from ! (tag-place ! event-field)) (tag-cell ! 42 refl)) (
           (λ h. absurd (r .tagged .none h)),
@@ -372,7 +372,7 @@ module _ {M : Type 1} (𝓤 : URA M) (H : Heap 𝓤) (A : Atoms 𝓤) (W : Given
                 lend-shr ! tt R (named 0) (named 0) κ q γ b o (length ys) ys (λ ν δ. move ! (3 ∷ 4 ∷ []) $ lend-shr ! tt i64 (named 1) (named 1) κ₁ q₁ γ₁ b₁ o₁ (length ts) ts (λ ν₁ δ₁. move ! (3 ∷ 4 ∷ 0 ∷ 1 ∷ 8 ∷ 9 ∷ []) $
                 use6 W (raw (NotEvent 𝓤 H A mem run .pre (to-not-event 𝓤 H A mem run W (ν ∷ []) (ν₁ ∷ []) κ₃ fullShare fullShare q₃ b o (length ys) δ ys b₁ o₁ (length ts) δ₁ ts said b₃ o₃ (length us) γ₃ us pos said-is pos-fits (free-is h)))) (asks-not-event 𝓤 H A mem run W (ν ∷ []) (ν₁ ∷ []) κ₃ fullShare fullShare q₃ b o (length ys) δ ys b₁ o₁ (length ts) δ₁ ts said b₃ o₃ (length us) γ₃ us pos said-is pos-fits (free-is h)) $
                 -- [what `not_event` asks; what is kept of the tallies, and of the records; the text; κ₂'s token; _24; …]
-                calls-at ! fm (NotEvent 𝓤 H A mem run) known-not-event (to-not-event 𝓤 H A mem run W (ν ∷ []) (ν₁ ∷ []) κ₃ fullShare fullShare q₃ b o (length ys) δ ys b₁ o₁ (length ts) δ₁ ts said b₃ o₃ (length us) γ₃ us pos said-is pos-fits (free-is h)) (and-then ! (load ! (from ! (stop !)) (look ! 25 refl)) (and-then ! (load ! (from ! (stop !)) (look ! 21 refl)) (and-then ! (load ! (from ! (stop !)) (look ! 39 refl)) (and-then ! (load ! (from ! (stop !)) (look ! 17 refl)) (and-then ! (load ! (from ! (stop !)) (look ! 41 refl)) (no-more !)))))) (λ w₁.
+                calls-at ! fm (NotEvent 𝓤 H A mem run) known-not-event (to-not-event 𝓤 H A mem run W (ν ∷ []) (ν₁ ∷ []) κ₃ fullShare fullShare q₃ b o (length ys) δ ys b₁ o₁ (length ts) δ₁ ts said b₃ o₃ (length us) γ₃ us pos said-is pos-fits (free-is h)) (and-then ! (load ! (from ! (stop !)) (look ! 25 refl)) (and-then ! (load ! (from ! (stop !)) (look ! 21 refl)) (and-then ! (load ! (from ! (stop !)) (look ! 39 {τ = ReadTy} {v = D′.lowered said} refl)) (and-then ! (load ! (from ! (stop !)) (look ! 17 refl)) (and-then ! (load ! (from ! (stop !)) (look ! 41 refl)) (no-more !)))))) (λ w₁.
                 use1 W (later (given (w₁ ≡ vint w64 (pos + length other)) (given (pos + length other < 2 ^ 64) (given (length (putAt pos other us) ≡ length us)
                 (‵ (flft (ν ∷ []) fullShare) ⊛ (‵ (flft (ν₁ ∷ []) fullShare) ⊛ (‵ (finally u8 γ₃ (putAt pos other us)) ⊛ ‵ (flft κ₃ q₃))))))))
                 (ended-not-event 𝓤 H A mem run W (ν ∷ []) (ν₁ ∷ []) κ₃ fullShare fullShare q₃ b o (length ys) δ ys b₁ o₁ (length ts) δ₁ ts said b₃ o₃ (length us) γ₃ us pos said-is pos-fits (free-is h) w₁) $ await ! tt $ learn ! (λ e₁. learn ! (λ fits. learn ! (λ m₃. split ! $ move ! (1 ∷ []) $ split ! $ move ! (1 ∷ []) $ split ! $

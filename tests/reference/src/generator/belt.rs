@@ -25,25 +25,26 @@ impl Belt {
             }
         }
         self.left -= 1;
-        let turn = self.turn(random);
+        let turn = self.turn(random, setup.is_bench());
         if random.chance(turn) {
             self.foreign = 1 - self.foreign;
         }
     }
 
-    /// How often the foreign level changes: now and then in bursts, more than are carried.
-    fn turn(&mut self, random: &mut Random) -> i64 {
-        if random.chance(2) {
+    /// How often the foreign level changes: now and then in bursts, more than are carried. Boxes come
+    /// slower by hand, and so do the signals.
+    fn turn(&mut self, random: &mut Random, by_hand: bool) -> i64 {
+        if random.chance(if by_hand { 1 } else { 2 }) {
             self.burst = random.between(10, 40);
         }
         if self.burst > 0 {
             self.burst -= 1;
             return 900;
         }
-        if self.foreign == 0 {
-            10
-        } else {
-            400
+        match (self.foreign, by_hand) {
+            (0, false) => 10,
+            (0, true) => 4,
+            _ => 400,
         }
     }
 
@@ -72,7 +73,7 @@ fn border(random: &mut Random, target: i64) -> i64 {
 }
 
 /// A box for these settings: at a limit or next to it, at the border of a class, near zero, or anything.
-fn weight(random: &mut Random, settings: &Settings) -> i64 {
+pub(super) fn weight(random: &mut Random, settings: &Settings) -> i64 {
     let s = settings;
     let limit = random.pick(&[s.lolo, s.lo, s.target, s.hi, s.hihi]);
     let weight = match random.between(0, 19) {

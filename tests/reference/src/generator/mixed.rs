@@ -1,6 +1,7 @@
 //! The kind `mixed`: realistic operation with every kind of event and report.
 
 use super::belt::Belt;
+use super::plate::{Plate, NEARZEROS};
 use super::random::Random;
 use super::Source;
 use crate::event::{Event, Settings, Setup, SorterSetup, SORTERS, TIMER, WEIGHT};
@@ -55,19 +56,23 @@ pub struct Mixed {
     /// Follows the stream, so that the choices fit the line's status.
     program: Program,
     belt: Belt,
+    plate: Plate,
     lines: u64,
     /// What the last line was, for what mostly follows it.
     last: Last,
     /// Limits and tares among the largest weights.
     heavy: bool,
+    /// Mostly in bench mode.
+    by_hand: bool,
 }
 
 impl Mixed {
     pub fn new(seed: u64) -> Mixed {
         let mut random = Random::new(seed);
         let heavy = random.chance(300);
-        let (program, belt) = (Program::fresh(), Belt::default());
-        Mixed { random, program, belt, lines: 0, last: Last::Other, heavy }
+        let by_hand = random.chance(300);
+        let (program, belt, plate) = (Program::fresh(), Belt::default(), Plate::default());
+        Mixed { random, program, belt, plate, lines: 0, last: Last::Other, heavy, by_hand }
     }
 
     /// A line for the present status. It is not followed yet.
@@ -92,6 +97,10 @@ impl Mixed {
         }
         if self.random.chance(report) {
             return Kind::Report;
+        }
+        // On the plate of a bench another nearzero makes a difference.
+        if self.program.line.setup.is_bench() && self.random.chance(10) {
+            return Kind::Recall;
         }
         let status = self.program.line.status as usize;
         self.random.weighted(&CHOICES.map(|(weights, kind)| (weights[status], kind)))
@@ -146,9 +155,22 @@ impl Mixed {
         let settings = self.program.memory.settings[line.code];
         let random = &mut self.random;
         self.belt.tick(random, &setup, &settings);
+        let safety = if random.chance(if status == Status::Paused { 200 } else { 20 }) {
+            random.between(0, 255)
+        } else {
+            setup.need | random.between(0, 255)
+        };
+        // A ninth signal while a box stays on the plate: its tick alone may arm.
+        let stays = setup.is_bench() && !line.bench.is_armed();
+        if stays && line.foreign.is_full() && random.chance(150) {
+            self.belt.foreign = 1;
+        }
+        let ninth = line.foreign.is_full() && line.foreign_level < self.belt.foreign;
+        let ends = ninth || setup.need & !safety != 0;
         // A line at rest is mostly cleared of boxes, so that it can run again.
         let gross = match status {
             Status::Stopped | Status::Emergency if random.chance(700) => settings.nearzero.min(3),
+            _ if setup.is_bench() => self.plate.tick(random, line, &settings, ends),
             _ => self.belt.gross(random),
         };
         let emergency = random.chance(match status {
@@ -156,11 +178,6 @@ impl Mixed {
             Status::Stopped => 40,
             _ => 1,
         });
-        let safety = if random.chance(if status == Status::Paused { 200 } else { 20 }) {
-            random.between(0, 255)
-        } else {
-            setup.need | random.between(0, 255)
-        };
         let mut v = [self.belt.sensor, i64::from(emergency), safety, self.belt.foreign, gross];
         let rest = matches!(status, Status::Stopped | Status::Emergency);
         self.stretch(&mut v, &[1, 1, 255, 1, WEIGHT], if rest { 100 } else { 6 });
@@ -173,7 +190,7 @@ impl Mixed {
     fn setup(&mut self) -> String {
         let Setup { mode, edge, tc, tw, ta, tf, sorters, stop, need } = self.timers();
         let mut v = vec![mode, edge, tc, tw, ta, tf];
-        let mut most = vec![2, 2, TIMER, TIMER, TIMER, TIMER];
+        let mut most = vec![4, 2, TIMER, TIMER, TIMER, TIMER];
         for SorterSetup { ts, to, sort } in sorters {
             v.extend([ts, to, sort]);
             most.extend([TIMER, TIMER, 254]);
@@ -194,20 +211,26 @@ impl Mixed {
     /// Short timers mostly.
     fn timers(&mut self) -> Setup {
         let random = &mut self.random;
-        let (mode, edge) = random.pick(&[(1, 1), (1, 1), (1, 2), (1, 2), (2, 2), (2, 2), (2, 1)]);
+        let belt = [(1, 1), (1, 1), (1, 2), (1, 2), (2, 2), (2, 2), (2, 1), (3, 2)];
+        let bench = random.chance(if self.by_hand { 800 } else { 200 });
+        let (mode, edge) = if bench { (4, random.between(1, 2)) } else { random.pick(&belt) };
         let long = random.chance(60);
-        let sorters = sorters(random, if long { 60 } else { 6 });
+        let sorters = match bench {
+            true => bench_sorters(random),
+            false => sorters(random, if long { 60 } else { 6 }),
+        };
+        let (wait, delay) = if bench { (15, random.pick(&[6, 60, 400])) } else { (4, 6) };
         let [a, b, c] = [(); 3].map(|()| random.between(0, 255));
         let [one, other] = [(); 2].map(|()| 1 << random.between(0, 7));
         Setup {
             mode,
             edge,
             tc: random.between(0, if long { 12 } else { 4 }),
-            tw: random.between(0, if long { 80 } else { 4 }),
+            tw: random.between(0, if long { 80 } else { wait }),
             ta: random.between(1, if long { 40 } else { 4 }),
-            tf: random.between(0, if long { 60 } else { 6 }),
+            tf: random.between(0, if long { 60 } else { delay }),
             sorters,
-            stop: random.pick(&[0, 0, one, a & b & c, b & c]),
+            stop: random.pick(&[0, 0, one, a & b & c, if bench { b } else { b & c }]),
             need: random.pick(&[0, 0, other, a & c]),
         }
     }
@@ -239,7 +262,7 @@ impl Mixed {
             lo,
             hi,
             hihi: hi + random.between(0, 30) * scale,
-            nearzero: random.pick(&[0, 10, 50, 100]),
+            nearzero: random.pick(&NEARZEROS),
             tare: random.pick(&[0, 0, 400, 1000, 1000]) * scale,
         }
     }
@@ -279,6 +302,15 @@ fn sorters(random: &mut Random, longest_on: i64) -> [SorterSetup; SORTERS] {
     });
     if random.chance(40) {
         sorters[random.below(SORTERS)].sort |= 1; // a bit that sort must not have
+    }
+    sorters
+}
+
+/// Mostly no masks, at times one of the six, which bench mode must not have.
+fn bench_sorters(random: &mut Random) -> [SorterSetup; SORTERS] {
+    let mut sorters = [SorterSetup { ts: 100, to: 50, sort: 0 }; SORTERS];
+    if random.chance(250) {
+        sorters[random.below(SORTERS)].sort = random.between(0, 255);
     }
     sorters
 }

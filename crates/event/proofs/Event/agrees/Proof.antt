@@ -15,7 +15,7 @@ use Rattle.event.proofs.Event.agrees.Tie as tie
 
 returns : tie.Need-returns
 unfolding eventAgrees
-returns c = simp (c .edge-agrees .ensures, c .before .before .self .given .1)
+returns c = simp (c .agrees .ensures, c .before .before .self .given .1)
 
 returns-2 : tie.Need-returns-2
 unfolding eventAgrees

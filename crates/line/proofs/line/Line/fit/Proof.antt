@@ -8,15 +8,16 @@ returns : tie.Need-returns
 unfolding lineFit
 returns c =
     simp (
-      c .fit6 .ensures,
-      c .before .fit5 .ensures,
-      c .before .before .fit4 .ensures,
-      c .before .before .before .all-fit .ensures,
-      c .before .before .before .before .status-fit .ensures,
-      c .before .before .before .before .before .fit3 .ensures,
-      c .before .before .before .before .before .before .fit2 .ensures,
-      c .before .before .before .before .before .before .before .fit .ensures,
-      c .before .before .before .before .before .before .before .before .is-code .ensures,
+      c .fit7 .ensures,
+      c .before .fit6 .ensures,
+      c .before .before .fit5 .ensures,
+      c .before .before .before .fit4 .ensures,
+      c .before .before .before .before .all-fit .ensures,
+      c .before .before .before .before .before .status-fit .ensures,
+      c .before .before .before .before .before .before .fit3 .ensures,
+      c .before .before .before .before .before .before .before .fit2 .ensures,
+      c .before .before .before .before .before .before .before .before .fit .ensures,
+      c .before .before .before .before .before .before .before .before .before .is-code .ensures,
     )
 
 pub fit-spec : {M : Type 1} → statement M
@@ -24,5 +25,5 @@ fit-spec =
     tie.close
     (tie.spec
     (search needs) (search needs) (search needs) (search needs) (search needs) (search needs) (search needs)
-    (search needs) (search needs)
+    (search needs) (search needs) (search needs)
     returns)
