@@ -109,14 +109,14 @@ or-false-left : (a b : Bool) → a || b ≡ false → a ≡ false
 or-false-left true b h = h
 or-false-left false b h = refl
 
-stopped-empty : (l : Line) → statusFit l ≡ true → l .status ≡ stopped → inHand (l .item) ≡ false
+pub stopped-empty : (l : Line) → statusFit l ≡ true → l .status ≡ stopped → inHand (l .item) ≡ false
 unfolding statusFit busy
 stopped-empty l h s =
     let idle = not ((eqb (l .status) stopped || eqb (l .status) emergency) && (inHand (l .item) || anySorting (l .sorters))) in
     let a = both (leb (l .status) 3 && errorKnown (l .error) && (eqb (l .status) paused || eqb (l .error) noError)) idle h in
     or-false-left (inHand (l .item)) (anySorting (l .sorters)) (not-true _ (rw s at (a .1)))
 
-status-known : (l : Line) → statusFit l ≡ true → l .status ≤ 3
+pub status-known : (l : Line) → statusFit l ≡ true → l .status ≤ 3
 unfolding statusFit
 status-known l h =
     let a = both (leb (l .status) 3 && errorKnown (l .error) && (eqb (l .status) paused || eqb (l .error) noError)) _ h in

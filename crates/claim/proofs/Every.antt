@@ -140,7 +140,7 @@ refused-goes l ts f t e n g =
       boxes = moves.still (hand l);
     }
 
-answer-goes : (w : World) (e : Event) (h : Holds w) → Goes (w .state .line) (h .pages) (h .targets) e (outOn (w .state) e)
+pub answer-goes : (w : World) (e : Event) (h : Holds w) → Goes (w .state .line) (h .pages) (h .targets) e (outOn (w .state) e)
 unfolding stepOf
 answer-goes w e h =
     let l = w .state .line in
@@ -176,7 +176,7 @@ balance-more : (t : Turn) (h : List Turn) (a z : ℕ) → a ≡ inHandAfter h �
 unfolding sumOver
 balance-more t h a z e g v b = omega (arith, v .flow, b, e, g)
 
-holds-after : (w : World) (e : Event) → Holds w → Holds (after w e)
+pub holds-after : (w : World) (e : Event) → Holds w → Holds (after w e)
 unfolding bookOf
 holds-after w e h =
     let g = answer-goes w e h in
@@ -229,7 +229,7 @@ unfolding runFrom
 holds-from w [] h = h
 holds-from w (e ∷ es) h = holds-from (after w e) es (holds-after w e h)
 
-holds : (es : List Event) → Holds (run es)
+pub holds : (es : List Event) → Holds (run es)
 unfolding run
 holds es = holds-from freshWorld es fresh-holds
 

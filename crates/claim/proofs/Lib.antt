@@ -7,3 +7,5 @@ pub mod Signals
 pub mod SortersApart
 pub mod BenchMode
 pub mod Every
+pub mod Waiting
+pub mod Examples

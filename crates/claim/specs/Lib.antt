@@ -6,3 +6,5 @@ pub mod RunningTick
 pub mod Signals
 pub mod SortersApart
 pub mod BenchMode
+pub mod Waiting
+pub mod WaitingExample

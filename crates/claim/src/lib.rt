@@ -5,6 +5,8 @@ ghost use Rattle.claim.specs.Example.{Example};
 ghost use Rattle.claim.specs.Signals.{SignalsKept};
 ghost use Rattle.claim.specs.SortersApart.{SortersApart};
 ghost use Rattle.claim.specs.StatusRefusals.{StatusRefusals};
+ghost use Rattle.claim.specs.Waiting.{NoBoxWaits};
+ghost use Rattle.claim.specs.WaitingExample.{WaitingExample};
 
 // The claim over every list of events, from a fresh line and fresh memory. It says nothing of the code here: it is a
 // theorem on `stepOn`, which `line::Line::apply` is proved to be.
@@ -35,4 +37,15 @@ pub fn sorters_apart()
 // In bench mode two-on cannot occur, and between two detections there is an arming: a box that lies still is weighed once.
 pub fn bench_mode()
     ensures { λ _. ⌜ BenchMode ⌝ }
+{}
+
+// Over every list of events a box has its outcome by the last of the tw + ta running ticks that follow its detection, a weighed
+// one not sooner, and it is the box's own.
+pub fn no_box_waits()
+    ensures { λ _. ⌜ NoBoxWaits ⌝ }
+{}
+
+// A box over two pauses, a refused sample and error 7, on the same definitions.
+pub fn waiting_example()
+    ensures { λ _. ⌜ WaitingExample ⌝ }
 {}

@@ -6,4 +6,5 @@ pub mod Ticks
 pub mod Signals
 pub mod Sorting
 pub mod Bench
+pub mod Left
 pub mod Stores

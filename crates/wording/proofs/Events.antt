@@ -5,6 +5,7 @@ use Prim.Native.Nat.{ℕ}
 use Rattle.event.specs.declared.Event.{Event}
 use Rattle.claim.specs.Run.{World, after, runFrom, run, freshWorld}
 use Rattle.claim.proofs.Every.{claim}
+use Rattle.claim.proofs.Waiting.{no-box-waits}
 use Rattle.text.specs.Read.{readLine}
 use Rattle.text.specs.declared.Read.{Read}
 use Rattle.text.specs.declared.Read.the-variants as read
@@ -47,4 +48,9 @@ runs (l ∷ ls) w = rw (behind-one (w .state) l ls, events-one l ls) (line-runs 
 
 pub text-claim : TextClaim
 unfolding run
-text-claim = record { held = λ input. runs (linesOf input) freshWorld; stands = λ input. claim (eventsOf (linesOf input)) }
+text-claim =
+    record {
+      held = λ input. runs (linesOf input) freshWorld;
+      stands = λ input. claim (eventsOf (linesOf input));
+      served = λ input. no-box-waits (eventsOf (linesOf input));
+    }

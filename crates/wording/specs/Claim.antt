@@ -6,6 +6,7 @@ use Rattle.event.specs.declared.Event.{Event}
 use Rattle.line.specs.State.{freshState}
 use Rattle.claim.specs.Run.{run}
 use Rattle.claim.specs.Claim.{Stands}
+use Rattle.claim.specs.Waiting.{AllServed}
 use Rattle.text.specs.Read.{readLine}
 use Rattle.text.specs.declared.Read.{Read}
 use Rattle.text.specs.declared.Read.the-variants as read
@@ -24,3 +25,5 @@ eventsOf (l ∷ ls) = eventIn (readLine l) ++ eventsOf ls
 pub record TextClaim : Type 0 where
   pub held : (input : List ℕ) → stateBehind freshState (linesOf input) ≡ run (eventsOf (linesOf input)) .state
   pub stands : (input : List ℕ) → Stands (run (eventsOf (linesOf input)))
+  -- 02, T-14: no box is left waiting
+  pub served : (input : List ℕ) → AllServed (eventsOf (linesOf input))

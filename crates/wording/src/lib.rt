@@ -28,7 +28,8 @@ pub fn spreads_in_tenths()
     ensures { λ _. ⌜ Tenths ⌝ }
 {}
 
-// Behind every input the line and both memories are those that the events of its lines give, and the claim holds of them.
+// Behind every input the line and both memories are those that the events of its lines give, the claim holds of them, and
+// none of their boxes is left waiting.
 pub fn claim_of_text()
     ensures { λ _. ⌜ TextClaim ⌝ }
 {}

@@ -18,3 +18,4 @@ mod readings_sheet;
 mod readings_text;
 mod requests;
 mod stream;
+mod waiting;
