@@ -4,55 +4,22 @@ use mathlib.Core.Path.{_≡_, refl, sym, ap, _∙_}
 use mathlib.Core.Bool.{true, false}
 use mathlib.Core.List.{List, [], _∷_, _++_, map}
 use native.Mathlib.Omega.{arith}
-use lib.Dec.{eqb}
 use lib.IntN.{ℤ, pos, negsuc, natAbs}
 use lib.ListN.{length, drop, length-drop, drop-of-length-le}
 use lib.Signed.{ltZ}
 use borrow.Author.Tests.{le-ltb}
-use Rattle.laws.proofs.Tests.{both, by-cases, never}
-use Rattle.numeral.specs.Number.{Head, none, some, numberHead, limit, hold, unsignedOf}
+use Rattle.laws.proofs.Tests.{by-cases, never}
+use Rattle.numeral.specs.Number.{none, some, numberHead, limit, hold, unsignedOf}
 use Rattle.numeral.specs.Found.{heldHead}
-use Rattle.text.specs.Form.{Item, byte, number, Values, other, values, also, andRest, lineValues}
+use Rattle.text.specs.Form.{Item, byte, number, lineValues}
 use Rattle.text.specs.Views.{isPrefix}
 use Rattle.decimal.specs.Bytes.{bytes}
 use Rattle.exitlog.specs.Entry.{windowForm, tickOf, tickIn, windowOr}
 use Rattle.exitlog.specs.declared.entry.Entry.the-variants.{Begin, Other}
 use Rattle.exitlog.specs.declared.entry.Tick.the-variants.{Nothing, TooWide}
-use Rattle.exitlog.specs.Views.{fieldHead, PlainNumber}
-use Rattle.exitlog.proofs.Numbers.{nothing-found, same-value, same-rest}
-
--- a form that begins with a key and a number
-pub field-law : (key : List ℕ) (form : List Item) (s : List ℕ) → lineValues (map byte key ++ number ∷ form) s ≡ andRest (lineValues form) (fieldHead key s)
-field-law [] form s = refl
-field-law (k ∷ key) form [] = refl
-field-law (k ∷ key) form (b ∷ s) = by-cases (eqb b k) (λ e. rw e (field-law key form s)) (λ e. rw e refl)
-
--- a key that stands there lies within the text
-pub prefix-within : (key s : List ℕ) → isPrefix key s ≡ true → length key ≤ length s
-prefix-within [] s h = omega arith
-prefix-within (k ∷ key) [] h = never h
-prefix-within (k ∷ key) (b ∷ s) h = let p = prefix-within key s (both (eqb b k) (isPrefix key s) h .1) in omega (arith, p)
-
--- ---- what the reader found, held or not
-
-pub none-held : (h : Head) → none ≡ heldHead h → h ≡ none
-none-held none e = refl
-none-held (some w r) e = nothing-found (hold w) r e
-
--- a number was found, and s behind it; v is what is held of it
-pub record Number (h : Head) (v : ℤ) (s : List ℕ) : Type 0 where
-  pub whole : ℤ
-  pub held : v ≡ hold whole
-  pub head : h ≡ some whole s
-
-pub number-held : (h : Head) (v : ℤ) (s : List ℕ) → some v s ≡ heldHead h → Number h v s
-number-held none v s e = nothing-found v s (sym e)
-number-held (some w r) v s e = record { whole = w; held = same-value e; head = ap (λ (t : List ℕ). some w t) (sym (same-rest e)) }
-
--- behind the last number nothing stands
-pub more-behind : (s : List ℕ) → 0 < length s → lineValues [] s ≡ other
-more-behind [] h = absurd (omega (arith, h))
-more-behind (b ∷ s) h = refl
+use Rattle.exitlog.specs.Views.{PlainNumber}
+use Rattle.field.specs.Field.{fieldHead}
+use Rattle.field.proofs.Fields.{nothing-found, field-law, none-held, Number, more-behind}
 
 -- what is held of a number has its sign
 held-sign : (m : ℕ) → ltZ (hold (negsuc m)) (pos 0) ≡ true

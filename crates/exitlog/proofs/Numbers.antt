@@ -1,6 +1,6 @@
 -- The digits of a number without a sign, one by one. Assumes nothing.
 use Prim.Native.Nat.{ℕ, zero, suc, _+_, _-_, _*_, _≤_, _<_}
-use mathlib.Core.Path.{_≡_, refl, sym, ap, _∙_}
+use mathlib.Core.Path.{_≡_, ap}
 use mathlib.Core.Bool.{Bool, true, false}
 use mathlib.Core.List.{List, [], _∷_}
 use native.Mathlib.Omega.{arith}
@@ -11,37 +11,14 @@ use borrow.Author.Tests.{leb-true, le-leb, eqb-true}
 use Rattle.laws.specs.Choice.{within}
 use Rattle.laws.proofs.Tests.{both, and-intro, by-cases, never}
 use Rattle.lists.proofs.Past.{cut}
-use Rattle.numeral.specs.Number.{Head, none, some, isDigit, digitOf, signed, digits, positive, numberHead}
+use Rattle.field.proofs.Fields.{nothing-found, same-value, same-rest}
+use Rattle.numeral.specs.Number.{some, isDigit, digitOf, signed, digits, positive, numberHead}
 
 -- ---- a number that was found is that number
-
-isSome : Head → Bool
-isSome none = false
-isSome (some v s) = true
-
-valueOf : Head → ℤ
-valueOf none = pos 0
-valueOf (some v s) = v
-
-restOf : Head → List ℕ
-restOf none = []
-restOf (some v s) = s
 
 isPos : ℤ → Bool
 isPos (pos n) = true
 isPos (negsuc n) = false
-
-pub nothing-found : {A : Type 0} (v : ℤ) (s : List ℕ) → none ≡ some v s → A
-unfolding isSome
-nothing-found v s e = never (ap isSome e)
-
-pub same-value : {v w : ℤ} {s r : List ℕ} → some v s ≡ some w r → v ≡ w
-unfolding valueOf
-same-value e = ap valueOf e
-
-pub same-rest : {v w : ℤ} {s r : List ℕ} → some v s ≡ some w r → s ≡ r
-unfolding restOf
-same-rest e = ap restOf e
 
 pub same-number : {m n : ℕ} {s r : List ℕ} → some (pos m) s ≡ some (pos n) r → m ≡ n
 same-number e = ap natAbs (same-value e)

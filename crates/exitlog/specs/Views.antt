@@ -1,21 +1,12 @@
 -- The reader's parts in the terms of `Form`, and the numbers of a buffer as lines.
 use Prim.Native.Nat.{ℕ, zero, suc}
 use mathlib.Core.Path.{_≡_}
-use mathlib.Core.Bool.{Bool, true, false, _&&_}
 use mathlib.Core.List.{List, [], _∷_, _++_}
-use lib.Dec.{eqb}
 use lib.IntN.{pos}
-use lib.ListN.{length, drop}
-use Rattle.laws.specs.Choice.{if_then_else_}
-use Rattle.numeral.specs.Number.{Head, none, some, numberHead}
-use Rattle.text.specs.Views.{isPrefix}
+use Rattle.numeral.specs.Number.{some, numberHead}
 use Rattle.exitlog.specs.Entry.{tickOf}
 use Rattle.exitlog.specs.Lines.{pairText}
 use Rattle.exitlog.specs.declared.entry.Tick.{Tick}
-
--- the number behind a key at the head of a text
-abbrev pub fieldHead : List ℕ → List ℕ → Head
-fieldHead key s = if isPrefix key s then numberHead (drop (length key) s) else none
 
 -- the text is a number without a sign, and nothing behind it
 pub record PlainNumber (s : List ℕ) : Type 0 where

@@ -2,16 +2,14 @@
 ghost use mathlib.Core.Path.{_≡_};
 ghost use mathlib.Core.List.{[], _∷_, _++_, map};
 ghost use lib.ListN.{drop};
-ghost use Rattle.numeral.specs.Found.{found, heldHead};
 ghost use Rattle.text.specs.Form.{byte, number, lineValues};
 ghost use Rattle.exitlog.specs.Entry.{signalForm, windowForm, tickIn, signalOr, windowOr, readEntry};
-ghost use Rattle.exitlog.specs.Views.{fieldHead, PlainNumber, TickOf};
+ghost use Rattle.exitlog.specs.Views.{PlainNumber, TickOf};
+use field::read_field;
 use numeral::Found;
-use numeral::read_number;
 use numeral::unsigned_of;
 use numeral::wide;
 use text::LONGEST_LINE;
-use text::has_key;
 
 // What a line says: `a= b=` begins a call, `verdict=` and `signal=` give a tick. A tick that 64 bits do not hold, too large or
 // negative, is too wide; a bound of the window that is negative or above 1,000,000,000 is given as 1,000,000,000, which is in
@@ -29,16 +27,6 @@ pub(crate) enum Tick {
     Nothing,
     Of(u64),
     TooWide,
-}
-
-// The number behind a key at a place.
-fn read_field(line: &[u8], at: usize, key: &[u8]) -> Found
-    ensures { λ r. ⌜ found (now (line .entry)) r ≡ heldHead (fieldHead (now (key .entry)) (drop at (now (line .entry)))) ⌝ }
-{
-    if !has_key(line, at, key) {
-        return Found::Nothing;
-    }
-    read_number(line, at + key.len())
 }
 
 // The number that stands from a place to the end, digit by digit, as long as 64 bits hold it.

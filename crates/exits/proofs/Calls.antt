@@ -1,39 +1,19 @@
--- A call, line by line: a tick that joins a list in its memory, and what stands at the front of the output. Assumes nothing.
-use mathlib.Core.Path.{_≡_, refl, sym, ap, subst, _∙_}
-use mathlib.Core.Bool.{Bool, true, false}
-use mathlib.Core.List.{List, [], _∷_, _++_}
-use Prim.Native.Nat.{ℕ, _+_, _*_, _≤_, _<_}
+-- A call, line by line: a tick that joins a list, how lines are read, and what stands at the front of the output. Assumes nothing.
+use mathlib.Core.Path.{_≡_, ap, _∙_}
+use mathlib.Core.List.{List, []}
+use Prim.Native.Nat.{ℕ, _≤_}
 use native.Mathlib.Omega.{arith}
-use native.Mathlib.Numerals.{add-one}
-use lib.Dec.{ltb}
-use lib.ListN.{length, take, drop, set, length-append, length-set}
-use lib.Seq.{take-at, take-suc-set, length-take-le}
-use borrow.Author.Tests.{le-leb, lt-ltb, le-ltb}
-use Rattle.laws.specs.Choice.{if_then_else_}
-use Rattle.print.specs.Written.{lengthWritten, bufferAfter}
+use lib.ListN.{length, take}
+use Rattle.text.specs.Form.{lineValues}
+use Rattle.blocks.specs.Left.{keptBytes}
+use Rattle.calls.specs.Kept.{Noted}
+use Rattle.calls.proofs.Kept.{joined, at-front}
+use Rattle.calls.proofs.Lines.{cut-read}
+use Rattle.exitlog.specs.Entry.{verdictForm, signalForm, windowForm, tickIn, verdictOr, signalOr, windowOr, readEntry}
 use Rattle.exitlog.specs.Lines.{callRoom, Prints, Printed}
-use Rattle.exitlog.specs.declared.entry.Entry.the-variants.{Verdict, Signal}
-use Rattle.exits.specs.Session.{places, State, noted, after, withCounts, stateOf, Holds, Noted}
+use Rattle.exitlog.specs.declared.entry.Entry.the-variants.{Verdict, Signal, Other}
+use Rattle.exits.specs.Session.{places, State, noneBegun, after, Closes, withCounts, stateOf, Holds}
 use Rattle.exits.specs.declared.session.Call.{Call}
-
--- ---- a tick that joins a list
-
-pub joins : (l : List ℕ) (count tick : ℕ) → count < length l → Noted l count tick (set l count tick) (count + 1)
-joins l count tick h =
-    record {
-      same = length-set l count tick;
-      within = omega (arith, h);
-      list = rw (lt-ltb count (length l) h, add-one count) (take-suc-set l count tick h);
-    }
-
-pub no-place : (l : List ℕ) (count tick : ℕ) → length l ≤ count → count ≤ length l → Noted l count tick l count
-no-place l count tick h g = record { same = refl; within = g; list = rw (le-ltb count (length l) h) refl }
-
--- the list with it
-joined : (l k : List ℕ) (count tick n : ℕ) → length l ≡ places → count ≤ places → Noted l count tick k n → take n k ≡ noted (take count l) tick
-joined l k count tick n e h j =
-    let size : length (take count l) ≡ count = length-take-le count l (omega (arith, e, h)) in
-    j .list ∙ rw (size, e) refl
 
 -- the states that differ in one list
 withVerdicts : State → List ℕ → State
@@ -49,7 +29,7 @@ module _ (c : Call) (vs ts : List ℕ) (h : Holds c vs ts) (tick n : ℕ) (l : L
   verdict-joins j =
       let w = j .within in
       let e = h .verdict-places in (
-        ap (withVerdicts (stateOf c vs ts)) (joined vs l (c .verdicts) tick n e (h .verdicts) j),
+        ap (withVerdicts (stateOf c vs ts)) (joined vs (c .verdicts) tick places l n e (h .verdicts) j),
         record { verdict-places = j .same ∙ e; signal-places = h .signal-places; verdicts = omega (arith, w, e); signals = h .signals },
       )
 
@@ -59,19 +39,19 @@ module _ (c : Call) (vs ts : List ℕ) (h : Holds c vs ts) (tick n : ℕ) (l : L
   signal-joins j =
       let w = j .within in
       let e = h .signal-places in (
-        ap (withSignals (stateOf c vs ts)) (joined ts l (c .signals) tick n e (h .signals) j),
+        ap (withSignals (stateOf c vs ts)) (joined ts (c .signals) tick places l n e (h .signals) j),
         record { verdict-places = h .verdict-places; signal-places = j .same ∙ e; verdicts = h .verdicts; signals = omega (arith, w, e) },
       )
 
--- ---- a text at the front of the output
+-- ---- a reader by what is kept of a line, and what the end prints before the first call
 
-pub at-front : (room : ℕ) (text b b′ : List ℕ) (r : ℕ) → room ≤ length b → r ≡ lengthWritten room text b → b′ ≡ bufferAfter room text b
-    → (r ≤ length b′) × (take r b′ ≡ text)
-at-front room text b b′ r h e f =
-    let size : r ≡ length text = e ∙ rw (le-leb room (length b) h) refl in
-    let is : b′ ≡ text ++ drop (length text) b = f ∙ rw (le-leb room (length b) h) refl in
-    let whole = ap length is ∙ length-append text (drop (length text) b) in
-    (omega (arith, size, whole), rw (is, size) (take-at text (drop (length text) b) (length text) refl))
+pub cut : (t : List ℕ) → readEntry (take keptBytes t) ≡ readEntry t
+cut t = cut-read (λ (s : List ℕ). verdictOr (tickIn (lineValues verdictForm s)) (signalOr (tickIn (lineValues signalForm s)) (windowOr (lineValues windowForm s)))) Other t
+
+pub quiet : (text : List ℕ) → Closes noneBegun text → text ≡ []
+quiet text e = e
+
+-- ---- what a call printed stands at the front of the output
 
 pub call-printed : (vs ts : List ℕ) (a b room : ℕ) (out out′ : List ℕ) (r : ℕ) → callRoom ≤ length out → Printed vs ts a b room out out′ r
     → (r ≤ length out′) × Prints vs ts a b room (take r out′)

@@ -2,13 +2,14 @@
 use Prim.Native.Nat.{ℕ, _+_, _*_, _≤_}
 use mathlib.Core.Path.{_≡_}
 use mathlib.Core.Bool.{Bool, true, false}
-use mathlib.Core.List.{List, [], _∷_, _++_}
-use lib.Dec.{ltb}
+use mathlib.Core.List.{List, []}
 use lib.ListN.{length, take}
-use Rattle.laws.specs.Choice.{if_then_else_}
 use Rattle.refusal.specs.Table.{formNo, valueNo}
 use Rattle.print.specs.Reply.{refusedText}
 use Rattle.pairing.specs.Answer.{longestList}
+use Rattle.calls.specs.Service.{Service}
+use Rattle.calls.specs.Kept.{noted}
+use Rattle.exitlog.specs.Entry.{readEntry}
 use Rattle.exitlog.specs.Lines.{Prints}
 use Rattle.exitlog.specs.declared.entry.Entry.{Entry}
 use Rattle.exitlog.specs.declared.entry.Entry.the-variants.{Begin, Verdict, Signal, TooWide, Other}
@@ -30,9 +31,6 @@ pub record State : Type 0 where
 abbrev pub noneBegun : State
 noneBegun = record { begun = false; wide = false; a = 0; b = 0; verdicts = []; signals = [] }
 
-abbrev pub noted : List ℕ → ℕ → List ℕ
-noted l t = if ltb (length l) places then l ++ t ∷ [] else l
-
 -- before a call has begun only the line that begins one has its place
 abbrev pub placed : Bool → Entry → Entry
 placed true e = e
@@ -45,8 +43,8 @@ placed false Other = Other
 -- the call behind a line
 abbrev pub after : State → Entry → State
 after s (Begin a b) = record { begun = true; wide = false; a = a; b = b; verdicts = []; signals = [] }
-after s (Verdict t) = record { begun = s .begun; wide = s .wide; a = s .a; b = s .b; verdicts = noted (s .verdicts) t; signals = s .signals }
-after s (Signal t) = record { begun = s .begun; wide = s .wide; a = s .a; b = s .b; verdicts = s .verdicts; signals = noted (s .signals) t }
+after s (Verdict t) = record { begun = s .begun; wide = s .wide; a = s .a; b = s .b; verdicts = noted places (s .verdicts) t; signals = s .signals }
+after s (Signal t) = record { begun = s .begun; wide = s .wide; a = s .a; b = s .b; verdicts = s .verdicts; signals = noted places (s .signals) t }
 after s TooWide = record { begun = s .begun; wide = true; a = s .a; b = s .b; verdicts = s .verdicts; signals = s .signals }
 after s Other = s
 
@@ -66,6 +64,19 @@ Says s (Verdict t) text = text ≡ []
 Says s (Signal t) text = text ≡ []
 Says s TooWide text = text ≡ []
 Says s Other text = text ≡ refusedText formNo 0
+
+-- the program, for what it prints over a whole input
+abbrev pub exitCalls : Service
+exitCalls =
+    record {
+      Entry = Entry;
+      State = State;
+      reads = readEntry;
+      start = noneBegun;
+      after = λ s e. after s (placed (s .begun) e);
+      Says = λ s e text. Says s (placed (s .begun) e) text;
+      Closes = Closes;
+    }
 
 -- ---- the call in the program's memories
 
@@ -90,9 +101,3 @@ pub record Holds (c : Call) (vs ts : List ℕ) : Type 0 where
   pub signal-places : length ts ≡ places
   pub verdicts : c .verdicts ≤ places
   pub signals : c .signals ≤ places
-
--- a tick joins the list that stands in a memory's first places
-pub record Noted (before : List ℕ) (count tick : ℕ) (after : List ℕ) (n : ℕ) : Type 0 where
-  pub same : length after ≡ length before
-  pub within : n ≤ length before
-  pub list : take n after ≡ (if ltb count (length before) then take count before ++ tick ∷ [] else take count before)

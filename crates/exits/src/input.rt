@@ -3,8 +3,8 @@ ghost use mathlib.Core.Path.{_≡_};
 ghost use Prim.Native.Nat.{_*_, _≤_};
 ghost use lib.ListN.{length};
 ghost use Rattle.exitlog.specs.Lines.{callRoom};
-ghost use Rattle.exits.specs.Session.{places, stateOf, Holds};
-ghost use Rattle.exits.specs.Traces.{EndsSo, Finished};
+ghost use Rattle.calls.specs.Traces.{EndsSo, Finished};
+ghost use Rattle.exits.specs.Session.{places, exitCalls, stateOf, Holds};
 use crate::session::Call;
 use crate::session::PLACES;
 use crate::session::close;
@@ -13,15 +13,8 @@ use blocks::Left;
 use blocks::Taken;
 use blocks::line_end;
 use blocks::write_out;
+use calls::Ended;
 use exitlog::CALL_ROOM;
-
-// How the program ends: no more input comes, and the `Left` says whether it has ended or a read failed; `write` did not take
-// all that was due; or the turns are used up, so many.
-pub(crate) enum Ended {
-    Input(Left),
-    Output(Taken),
-    Turns(u64),
-}
 
 // Zeros for what is printed, for the ticks of a list and for the pairs; each says its length alone.
 fn output() -> [u8; CALL_ROOM]
@@ -52,7 +45,7 @@ fn finish(
     left: Left,
 ) -> Ended
     requires { ⌜ Holds call (now verdicts) (now signals) × (length (now pairs) ≡ 2 * places) × (callRoom ≤ length (now out)) ⌝ }
-    ensures { λ r. ⌜ Finished (stateOf call (now (verdicts .entry)) (now (signals .entry))) left r ⌝ }
+    ensures { λ r. ⌜ Finished exitCalls (stateOf call (now (verdicts .entry)) (now (signals .entry))) left r ⌝ }
 {
     let at = close(call, verdicts, signals, pairs, out);
     let taken = write_out(out, at);
@@ -64,7 +57,7 @@ fn finish(
 
 // Each complete line in the buffer is served, and what it prints written; where none is left, more is read.
 pub(crate) fn serve_input() -> Ended
-    ensures { λ r. ⌜ EndsSo r ⌝ }
+    ensures { λ r. ⌜ EndsSo exitCalls r ⌝ }
 {
     let mut input = io::large_buffer();
     let mut out = output();

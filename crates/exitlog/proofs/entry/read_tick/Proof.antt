@@ -7,8 +7,9 @@ use lib.ListN.{drop}
 use lib.Signed.{ltZ}
 use denote.Ref.{now}
 use Rattle.laws.proofs.Signed.{back}
-use Rattle.exitlog.specs.Views.{fieldHead}
-use Rattle.exitlog.proofs.Fields.{Number, number-held, tick-none, tick-more, tick-below, plain, tick-plain}
+use Rattle.field.specs.Field.{fieldHead}
+use Rattle.field.proofs.Fields.{Number, number-held}
+use Rattle.exitlog.proofs.Fields.{tick-none, tick-more, tick-below, plain, tick-plain}
 use Rattle.exitlog.proofs.entry.read_tick.Statement.{statement}
 use Rattle.exitlog.proofs.entry.read_tick.Tie as tie
 

@@ -4,7 +4,8 @@ use mathlib.Core.Path.{ap, _∙_}
 use denote.Ref.{now}
 use Rattle.numeral.specs.Number.{unsignedOf}
 use Rattle.laws.proofs.Signed.{back}
-use Rattle.exitlog.proofs.Fields.{number-held, no-first, no-second, more-left, window-is}
+use Rattle.field.proofs.Fields.{number-held}
+use Rattle.exitlog.proofs.Fields.{no-first, no-second, more-left, window-is}
 use Rattle.exitlog.proofs.entry.read_window.Statement.{statement}
 use Rattle.exitlog.proofs.entry.read_window.Tie as tie
 

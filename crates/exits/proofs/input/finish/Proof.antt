@@ -5,7 +5,7 @@ use mathlib.Core.Bool.{true, false}
 use lib.ListN.{take}
 use denote.Ref.{now}
 use Rattle.exits.specs.Session.{Closes, stateOf}
-use Rattle.exits.proofs.Traced.{took-all, took-less}
+use Rattle.calls.proofs.Traced.{took-all, took-less}
 use Rattle.exits.proofs.input.finish.Statement.{statement}
 use Rattle.exits.proofs.input.finish.Tie as tie
 

@@ -9,15 +9,16 @@ use lib.Seq.{length-take-le}
 use borrow.Author.Tests.{not-true, not-false}
 use Rattle.blocks.specs.Left.{lastOf, bytesLeft}
 use Rattle.exitlog.specs.Lines.{callRoom}
-use Rattle.exits.specs.Session.{places, stateOf, Holds}
-use Rattle.exits.specs.Traces.{Traced}
-use Rattle.exits.proofs.Traced.{traced-fresh, traced-due, took-all, took-less, turn-goes, turn-due, turn-finished, turn-reads}
+use Rattle.exits.specs.Session.{places, exitCalls, stateOf, Holds}
+use Rattle.exits.proofs.Calls.{cut, quiet}
+use Rattle.calls.specs.Traces.{Traced}
+use Rattle.calls.proofs.Traced.{traced-fresh, traced-due, took-all, took-less, turn-goes, turn-due, turn-finished, turn-reads}
 use Rattle.exits.proofs.input.serve_input.Statement.{statement}
 use Rattle.exits.proofs.input.serve_input.Tie as tie
 
 abbrev Inv-loop : tie.InvT-loop
 Inv-loop input₀ out₀ verdicts₀ signals₀ pairs₀ call₀ left₀ turns₀ input out verdicts signals pairs call left turns =
-    (length input ≡ 65536) × (length out ≡ callRoom) × (length pairs ≡ 2 * places) × Holds call verdicts signals × (left .start ≤ left .end) × (left .end ≤ 65536) × (turns ≤ 2 ^ 64 - 1) × Traced (stateOf call verdicts signals) (bytesLeft left input) (lastOf left)
+    (length input ≡ 65536) × (length out ≡ callRoom) × (length pairs ≡ 2 * places) × Holds call verdicts signals × (left .start ≤ left .end) × (left .end ≤ 65536) × (turns ≤ 2 ^ 64 - 1) × Traced exitCalls (stateOf call verdicts signals) (bytesLeft left input) (lastOf left)
 
 abbrev μ-loop : tie.MeasureT-loop
 μ-loop input₀ out₀ verdicts₀ signals₀ pairs₀ call₀ left₀ turns₀ input out verdicts signals pairs call left turns = 2 ^ 64 - 1 - turns
@@ -32,7 +33,7 @@ loop-holds c =
       omega arith,
       omega arith,
       omega arith,
-      traced-fresh,
+      traced-fresh exitCalls cut quiet,
     )
 
 returns : tie.Need-returns Inv-loop μ-loop
@@ -40,7 +41,7 @@ returns c =
     let l = c .before .before .before .before .before .before .before .before .before .before .before .before .before .loop in
     let n = l .inv .0 in
     let w = l .inv .5 in
-    turn-finished (l .input) (l .left) (stateOf (l .call) (l .verdicts) (l .signals)) (l .inv .4) (omega (arith, n, w)) _ (c .before .before .before .before .before .before .before .before .before .before .line-end .ensures) (l .inv .7) (c .before .before .before .before .before .before .before .before .before .if1 .taken) (sym (c .before .before .before .before .before .before .before .before .is-last .ensures) ∙ c .before .before .before .before .before .before .before .if2 .taken)
+    turn-finished exitCalls cut quiet (l .input) (l .left) (stateOf (l .call) (l .verdicts) (l .signals)) (l .inv .4) (omega (arith, n, w)) _ (c .before .before .before .before .before .before .before .before .before .before .line-end .ensures) (l .inv .7) (c .before .before .before .before .before .before .before .before .before .if1 .taken) (sym (c .before .before .before .before .before .before .before .before .is-last .ensures) ∙ c .before .before .before .before .before .before .before .if2 .taken)
     (c .before .before .finish .result) (c .before .before .finish .ensures)
 
 loop-again : tie.Need-loop-again Inv-loop μ-loop
@@ -50,7 +51,7 @@ loop-again c =
     let w = l .inv .5 in
     let t = c .before .before .before .before .before .before .before .before .loop-test .taken in
     let r = c .before .refilled in
-    let on = turn-reads (l .input) (l .left) (stateOf (l .call) (l .verdicts) (l .signals)) (l .inv .4) (omega (arith, n, w)) _ (c .before .before .before .before .before .before .line-end .ensures) (l .inv .7) (c .before .before .before .before .before .if1 .taken) (sym (c .before .before .before .before .is-last .ensures) ∙ c .before .before .before .if2 .left)
+    let on = turn-reads exitCalls cut quiet (l .input) (l .left) (stateOf (l .call) (l .verdicts) (l .signals)) (l .inv .4) (omega (arith, n, w)) _ (c .before .before .before .before .before .before .line-end .ensures) (l .inv .7) (c .before .before .before .before .before .if1 .taken) (sym (c .before .before .before .before .is-last .ensures) ∙ c .before .before .before .if2 .left)
     (omega (arith, n)) (r .result) (r .last .1 .0) (r .ensures) in
     let m = on .0 in
     let e = on .2 in
@@ -66,7 +67,7 @@ returns-2 c =
     let t = c .before .before .write-out in
     let less = took-less (served .result .at) out (served .ensures .0 .1) (t .result) (t .ensures) (sym (c .before .all .ensures) ∙ not-true _ (c .if3 .taken)) in (
       record { due = take (served .result .at) out; size = less .0; less = less .1 },
-      turn-due (l .input) (l .left) (stateOf (l .call) (l .verdicts) (l .signals)) (l .inv .4) (omega (arith, n, w)) _ (c .before .before .before .before .before .before .before .before .before .before .before .before .before .before .before .before .line-end .ensures) (l .inv .7) (c .before .before .before .before .before .before .before .before .before .before .before .before .before .before .before .if1 .left) _ refl
+      turn-due exitCalls cut quiet (l .input) (l .left) (stateOf (l .call) (l .verdicts) (l .signals)) (l .inv .4) (omega (arith, n, w)) _ (c .before .before .before .before .before .before .before .before .before .before .before .before .before .before .before .before .line-end .ensures) (l .inv .7) (c .before .before .before .before .before .before .before .before .before .before .before .before .before .before .before .if1 .left) _ refl
           (take (served .result .at) out) (served .ensures .1 .1),
     )
 
@@ -81,7 +82,7 @@ loop-again-2 c =
     let taken = c .before .before .before .before .write-out in
     let all = took-all (served .result .at) out (served .ensures .0 .1) (taken .result) (taken .ensures) (sym (c .before .before .before .all .ensures) ∙ not-false _ (c .before .before .if3 .left)) in
     let says = served .ensures .1 .1 in
-    let on = turn-goes (l .input) (l .left) (stateOf (l .call) (l .verdicts) (l .signals)) (l .inv .4) (omega (arith, n, w)) _ (c .before .before .before .before .before .before .before .before .before .before .before .before .before .before .before .before .before .before .line-end .ensures) (l .inv .7) (c .before .before .before .before .before .before .before .before .before .before .before .before .before .before .before .before .before .if1 .left) _ refl
+    let on = turn-goes exitCalls cut quiet (l .input) (l .left) (stateOf (l .call) (l .verdicts) (l .signals)) (l .inv .4) (omega (arith, n, w)) _ (c .before .before .before .before .before .before .before .before .before .before .before .before .before .before .before .before .before .before .line-end .ensures) (l .inv .7) (c .before .before .before .before .before .before .before .before .before .before .before .before .before .before .before .before .before .if1 .left) _ refl
     (take (taken .result .taken) out) (rw all says) (stateOf (served .result .call) (served .last .1 .0) (served .last .1 .1 .0)) (served .ensures .1 .0) in
     rw (c .past .ensures) (n, served .kept .1 .1 .1 .1 .1 .0 ∙ l .inv .1, served .kept .1 .1 .1 .0 ∙ l .inv .2, served .ensures .0 .0, on .0, w, omega (arith, t), on .1)
 
@@ -126,7 +127,7 @@ returns-3 c =
     let l = c .before .loop in
     let t = c .loop-test .left in
     let m = l .inv .6 in
-    (omega (arith, t, m), traced-due (stateOf (l .call) (l .verdicts) (l .signals)) (bytesLeft (l .left) (l .input)) (lastOf (l .left)) (l .inv .7))
+    (omega (arith, t, m), traced-due exitCalls cut quiet (stateOf (l .call) (l .verdicts) (l .signals)) (bytesLeft (l .left) (l .input)) (lastOf (l .left)) (l .inv .7))
 
 pub serve-input-spec : {M : Type 1} → statement M
 serve-input-spec =

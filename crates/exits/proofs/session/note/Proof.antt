@@ -1,7 +1,7 @@
 -- `note` puts a tick behind the list, if it has a place. Assumes nothing.
 use borrow.Author.Needs.{needs}
 use denote.Ref.{now}
-use Rattle.exits.proofs.Calls.{joins, no-place}
+use Rattle.calls.proofs.Kept.{joins, no-place}
 use Rattle.exits.proofs.session.note.Statement.{statement}
 use Rattle.exits.proofs.session.note.Tie as tie
 

@@ -3,7 +3,7 @@ use borrow.Author.Needs.{needs}
 use native.Mathlib.Omega.{arith}
 use denote.Ref.{now}
 use Rattle.print.specs.Reply.{replyRoom, refusedText}
-use Rattle.exits.proofs.Calls.{at-front}
+use Rattle.calls.proofs.Kept.{at-front}
 use Rattle.exits.proofs.session.refuse.Statement.{statement}
 use Rattle.exits.proofs.session.refuse.Tie as tie
 

@@ -8,6 +8,7 @@ use lib.Dec.{eqb, leb}
 use lib.ListN.{length, take, drop, length-append}
 use lib.Seq.{take-all, take-take, take-append-le, length-take-le}
 use borrow.Author.Tests.{leb-true, leb-false, lt-leb}
+use Rattle.laws.specs.Choice.{if_then_else_}
 use Rattle.laws.proofs.Tests.{by-cases}
 use Rattle.decimal.specs.Bytes.{lf}
 use Rattle.text.specs.Read.{longestLine}
@@ -16,13 +17,8 @@ use Rattle.controller.proofs.Lines.{lines-end, lines-lf, lines-other, lines-clo
 use Rattle.blocks.specs.Lines.{lineLength, NoLf}
 use Rattle.blocks.specs.Left.{keptBytes, atEnd}
 use Rattle.blocks.proofs.Ends.{at-lf, before-lf, no-more}
-use Rattle.exitlog.specs.Entry.{readEntry}
-use Rattle.exitlog.specs.declared.entry.Entry.{Entry}
-use Rattle.exits.specs.Traces.{entriesOf}
-
--- what the lines say, where some bytes of a line stand before
-abbrev entriesFrom : List ℕ → List ℕ → List Entry
-entriesFrom before more = map readEntry (linesFrom before more)
+use Rattle.calls.specs.Service.{Service}
+use Rattle.calls.specs.Traces.{entriesOf}
 
 -- a line up to its LF
 whole-line : (before bs more : List ℕ) → lineLength bs < length bs
@@ -38,10 +34,6 @@ whole-line before (b ∷ s) more h =
     ∙ whole-line (before ++ b ∷ []) s more (omega (arith, h, before-lf b s n))
     ∙ ap (λ (t : List ℕ). t ∷ linesOf (drop (lineLength s + 1) s ++ more)) (append-assoc before (b ∷ []) (take (lineLength s) s))))
 
-pub first-entry : (bs more : List ℕ) → lineLength bs < length bs
-    → entriesOf (bs ++ more) ≡ readEntry (take (lineLength bs) bs) ∷ entriesOf (drop (lineLength bs + 1) bs ++ more)
-first-entry bs more h = ap (map readEntry) (whole-line [] bs more h)
-
 -- no LF
 no-line : (before bs more : List ℕ) → NoLf bs → linesFrom before (bs ++ more) ≡ linesFrom (before ++ bs) more
 no-line before [] more h = rw (append-nil before) refl
@@ -53,20 +45,20 @@ no-line before (b ∷ s) more h =
     ∙ no-line (before ++ b ∷ []) s more (omega (arith, h, before-lf b s n))
     ∙ ap (λ (t : List ℕ). linesFrom t more) (append-assoc before (b ∷ []) s))
 
-pub no-entry : entriesOf [] ≡ []
-no-entry = ap (map readEntry) (lines-end [])
+-- ---- what is kept of a line
 
--- ---- what is kept of a line stands for all of it: one over the longest reads as other, whatever it holds
 short : (t : List ℕ) → leb (length t) keptBytes ≡ true → take keptBytes t ≡ t
 short t y = take-all keptBytes t (leb-true (length t) keptBytes y)
 
 long : (t : List ℕ) → leb (length t) keptBytes ≡ false → keptBytes ≤ length t
 long t n = let h = leb-false (length t) keptBytes n in omega (arith, h)
 
-cut-entry : (t : List ℕ) → readEntry (take keptBytes t) ≡ readEntry t
-cut-entry t =
+-- a line over the longest reads as one thing, whatever it holds
+pub cut-read : {A : Type 0} (read : List ℕ → A) (other : A) (t : List ℕ)
+    → (if leb (length (take keptBytes t)) longestLine then read (take keptBytes t) else other) ≡ (if leb (length t) longestLine then read t else other)
+cut-read read other t =
     by-cases (leb (length t) keptBytes)
-    (λ y. ap readEntry (short t y))
+    (λ y. rw (short t y) refl)
     (λ n.
     let h = long t n in
     let over : leb (length t) longestLine ≡ false = lt-leb (length t) longestLine (omega (arith, h)) in
@@ -82,24 +74,6 @@ cut-more t b =
     let whole : length (take keptBytes t) ≡ keptBytes = length-take-le keptBytes t h in
     take-append-le keptBytes (take keptBytes t) (b ∷ []) (omega (arith, whole)) ∙ take-take keptBytes keptBytes t (omega arith) ∙ sym (take-append-le keptBytes t (b ∷ []) h))
 
-cut-last : (t : List ℕ) → map readEntry (lastLine (take keptBytes t)) ≡ map readEntry (lastLine t)
-cut-last [] = refl
-cut-last (b ∷ t) = ap (λ (e : Entry). e ∷ []) (cut-entry (b ∷ t))
-
-cut-entries : (more t : List ℕ) → entriesFrom (take keptBytes t) more ≡ entriesFrom t more
-cut-entries [] t = ap (map readEntry) (lines-end (take keptBytes t)) ∙ cut-last t ∙ ap (map readEntry) (sym (lines-end t))
-cut-entries (b ∷ more) t =
-    by-cases (eqb b lf)
-    (λ y.
-    ap (map readEntry) (lines-lf (take keptBytes t) b more y) ∙ ap (λ (e : Entry). e ∷ entriesOf more) (cut-entry t)
-    ∙ ap (map readEntry) (sym (lines-lf t b more y)))
-    (λ n.
-    ap (map readEntry) (lines-other (take keptBytes t) b more n)
-    ∙ sym (cut-entries more (take keptBytes t ++ b ∷ []))
-    ∙ ap (λ (u : List ℕ). entriesFrom u more) (cut-more t b)
-    ∙ cut-entries more (t ++ b ∷ [])
-    ∙ ap (map readEntry) (sym (lines-other t b more n)))
-
 -- ---- a line that has begun has no LF, nor has its front
 behind-lf : (b : ℕ) (t : List ℕ) → NoLf (b ∷ t) → (eqb b lf ≡ false) × NoLf t
 behind-lf b t h =
@@ -112,19 +86,7 @@ front-no-lf zero t h = no-more
 front-no-lf (suc k) [] h = h
 front-no-lf (suc k) (b ∷ t) h = let r = behind-lf b t h in before-lf b (take k t) (r .0) ∙ ap suc (front-no-lf k t (r .1))
 
-pub kept-entries : (left more : List ℕ) → NoLf left → entriesOf (take keptBytes left ++ more) ≡ entriesOf (left ++ more)
-kept-entries left more h =
-    ap (map readEntry) (no-line [] (take keptBytes left) more (front-no-lf keptBytes left h)) ∙ cut-entries more left
-    ∙ ap (map readEntry) (sym (no-line [] left more h))
-
--- ---- the end of the input
-closed-entries : (held : List ℕ) → NoLf held → entriesOf (held ++ atEnd held) ≡ entriesOf (held ++ [])
-closed-entries [] h = refl
-closed-entries (b ∷ t) h =
-    ap (map readEntry) (no-line [] (b ∷ t) (lf ∷ []) h ∙ lines-closed b t ∙ sym (no-line [] (b ∷ t) [] h))
-
-pub ended-entries : (left : List ℕ) → NoLf left → entriesOf (take keptBytes left ++ atEnd (take keptBytes left)) ≡ entriesOf (left ++ [])
-ended-entries left h = closed-entries (take keptBytes left) (front-no-lf keptBytes left h) ∙ kept-entries left [] h
+-- ---- behind the end
 
 lf-within : (l : List ℕ) → lineLength (l ++ lf ∷ []) ≤ length l
 lf-within [] = rw (at-lf lf [] refl) (omega arith)
@@ -150,3 +112,50 @@ behind-end (b ∷ l) (suc k) h = behind-end l k h
 pub ended-closed : (held : List ℕ) (k : ℕ) → NoLf (drop k (held ++ atEnd held)) → drop k (held ++ atEnd held) ≡ []
 ended-closed [] k h = gone k
 ended-closed (b ∷ t) k h = behind-end (b ∷ t) k h
+
+-- ---- what the lines say
+
+module _ (p : Service) where
+  -- where some bytes of a line stand before
+  abbrev entriesFrom : List ℕ → List ℕ → List (p .Entry)
+  entriesFrom before more = map (p .reads) (linesFrom before more)
+
+  pub first-entry : (bs more : List ℕ) → lineLength bs < length bs
+      → entriesOf p (bs ++ more) ≡ (p .reads) (take (lineLength bs) bs) ∷ entriesOf p (drop (lineLength bs + 1) bs ++ more)
+  first-entry bs more h = ap (map (p .reads)) (whole-line [] bs more h)
+
+  pub no-entry : entriesOf p [] ≡ []
+  no-entry = ap (map (p .reads)) (lines-end [])
+
+  -- what is kept of a line stands for all of it
+  module _ (cut : (t : List ℕ) → p .reads (take keptBytes t) ≡ p .reads t) where
+    cut-last : (t : List ℕ) → map (p .reads) (lastLine (take keptBytes t)) ≡ map (p .reads) (lastLine t)
+    cut-last [] = refl
+    cut-last (b ∷ t) = ap (λ (e : p .Entry). e ∷ []) (cut (b ∷ t))
+
+    cut-entries : (more t : List ℕ) → entriesFrom (take keptBytes t) more ≡ entriesFrom t more
+    cut-entries [] t = ap (map (p .reads)) (lines-end (take keptBytes t)) ∙ cut-last t ∙ ap (map (p .reads)) (sym (lines-end t))
+    cut-entries (b ∷ more) t =
+        by-cases (eqb b lf)
+        (λ y.
+        ap (map (p .reads)) (lines-lf (take keptBytes t) b more y) ∙ ap (λ (e : p .Entry). e ∷ entriesOf p more) (cut t)
+        ∙ ap (map (p .reads)) (sym (lines-lf t b more y)))
+        (λ n.
+        ap (map (p .reads)) (lines-other (take keptBytes t) b more n)
+        ∙ sym (cut-entries more (take keptBytes t ++ b ∷ []))
+        ∙ ap (λ (u : List ℕ). entriesFrom u more) (cut-more t b)
+        ∙ cut-entries more (t ++ b ∷ [])
+        ∙ ap (map (p .reads)) (sym (lines-other t b more n)))
+
+    pub kept-entries : (left more : List ℕ) → NoLf left → entriesOf p (take keptBytes left ++ more) ≡ entriesOf p (left ++ more)
+    kept-entries left more h =
+        ap (map (p .reads)) (no-line [] (take keptBytes left) more (front-no-lf keptBytes left h)) ∙ cut-entries more left
+        ∙ ap (map (p .reads)) (sym (no-line [] left more h))
+
+    closed-entries : (held : List ℕ) → NoLf held → entriesOf p (held ++ atEnd held) ≡ entriesOf p (held ++ [])
+    closed-entries [] h = refl
+    closed-entries (b ∷ t) h =
+        ap (map (p .reads)) (no-line [] (b ∷ t) (lf ∷ []) h ∙ lines-closed b t ∙ sym (no-line [] (b ∷ t) [] h))
+
+    pub ended-entries : (left : List ℕ) → NoLf left → entriesOf p (take keptBytes left ++ atEnd (take keptBytes left)) ≡ entriesOf p (left ++ [])
+    ended-entries left h = closed-entries (take keptBytes left) (front-no-lf keptBytes left h) ∙ kept-entries left [] h

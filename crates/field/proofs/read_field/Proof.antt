@@ -1,17 +1,17 @@
 -- `read_field` finds the number behind its key. Assumes nothing.
 use borrow.Author.Needs.{needs}
-use mathlib.Core.Path.{_≡_, refl, sym, ap, _∙_}
+use mathlib.Core.Path.{_≡_, refl, sym, _∙_}
 use mathlib.Core.Bool.{true, false}
-use Prim.Native.Nat.{ℕ, _+_, _<_, _^_}
+use Prim.Native.Nat.{_<_, _^_}
 use native.Mathlib.Omega.{arith}
 use lib.ListN.{length, drop, length-drop}
 use lib.Seq.{drop-drop}
 use borrow.Author.Tests.{not-true, not-false}
 use denote.Ref.{now}
 use Rattle.text.specs.Views.{isPrefix}
-use Rattle.exitlog.proofs.Fields.{prefix-within}
-use Rattle.exitlog.proofs.entry.read_field.Statement.{statement}
-use Rattle.exitlog.proofs.entry.read_field.Tie as tie
+use Rattle.field.proofs.Fields.{prefix-within}
+use Rattle.field.proofs.read_field.Statement.{statement}
+use Rattle.field.proofs.read_field.Tie as tie
 
 returns : tie.Need-returns
 returns c =
