@@ -90,7 +90,7 @@ fn is_mask(mask: i64) -> bool {
     (0..=255).contains(&mask)
 }
 
-fn is_weight(weight: i64) -> bool {
+pub fn is_weight(weight: i64) -> bool {
     (-WEIGHT..=WEIGHT).contains(&weight)
 }
 

@@ -4,6 +4,7 @@ pub mod belt;
 pub mod damage;
 pub mod exits;
 pub mod limit;
+pub mod margin;
 pub mod mixed;
 pub mod plate;
 pub mod random;
@@ -14,6 +15,7 @@ use std::io::{self, Write};
 use damage::Damaged;
 use exits::Exits;
 use limit::Limit;
+use margin::Margin;
 use mixed::Mixed;
 use samples::Samples;
 
@@ -35,6 +37,7 @@ pub fn source(kind: &str, seed: u64, lines: u64) -> Option<Box<dyn Source>> {
         "damaged" => Some(Box::new(Damaged::new(seed, lines))),
         "limit" => Some(Box::new(Limit::new(seed))),
         "exits" => Some(Box::new(Exits::new(seed))),
+        "margin" => Some(Box::new(Margin::new(seed))),
         _ => None,
     }
 }

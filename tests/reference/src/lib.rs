@@ -10,6 +10,7 @@ pub mod exits;
 pub mod foreign;
 pub mod generator;
 pub mod line;
+pub mod margin;
 pub mod memory;
 pub mod print;
 pub mod read;

@@ -79,7 +79,7 @@ fn four_digits(digits: &[u8]) -> Option<i64> {
 /// The numbers behind the keys, in this order, with nothing else in the line.
 /// Each key but the first begins with the one space between fields.
 #[inline(always)] // so that each kind of line compares with its own known keys
-fn fields<const N: usize>(line: &[u8], keys: [&str; N]) -> Option<[i64; N]> {
+pub(crate) fn fields<const N: usize>(line: &[u8], keys: [&str; N]) -> Option<[i64; N]> {
     let mut rest = line;
     let mut values = [0; N];
     for (value, key) in values.iter_mut().zip(keys) {

@@ -11,6 +11,7 @@ mod coverage_bench;
 mod example;
 mod exits;
 mod gate;
+mod margin;
 mod mistakes;
 mod operation;
 mod readings_line;

@@ -1,0 +1,10 @@
+pub mod Shift
+pub mod Samples
+pub mod Sums
+pub mod Means
+pub mod Bits
+pub mod Between
+pub mod Reach
+pub mod Accepted
+pub mod Machine
+pub mod Exactly
