@@ -13,7 +13,7 @@ use Rattle.part.specs.Classes.{packed, classedWith}
 use Rattle.part.specs.Part.{Part}
 use Rattle.tallies.specs.Memory.{fitAt, partAt, readAt}
 use Rattle.tallies.proofs.Parts.{read-is}
-use Rattle.undo.specs.Undo.{takesAt}
+use Rattle.undo.specs.Undo.{keptAs, takesAt}
 use Rattle.undo.proofs.Laws.{untaken, taken, taken-is, unsound, takes-at, noted-part, taken-written}
 use Rattle.undo.proofs.note.Statement.{statement}
 use Rattle.undo.proofs.note.Tie as tie
@@ -72,8 +72,9 @@ returns-3 c =
     let old : c .before .before .before .before .before .before .classes .result ≡ packed (p .counts) =
     c .before .before .before .before .before .before .classes .ensures ∙ ap (λ (q : Part). packed (q .counts)) (read-was e) in
     let new : c .before .before .before .with .result ≡ classedWith (packed (p .counts)) (a .verdict) (a .net) (a .target) =
-    rw (toZ-ofZ (s .fits .net), toZ-ofZ (s .fits .target), old) at (c .before .before .before .with .ensures) in (
-      rw all (c .kept .ensures ∙ rw (before-is (n .before), old)),
+    rw (toZ-ofZ (s .fits .net), toZ-ofZ (s .fits .target), old) at (c .before .before .before .with .ensures) in
+    let was : c .kept .result ≡ keptAs (n .before .read .result) (c .before .before .before .before .before .before .classes .result) = c .kept .ensures in (
+      rw all (was ∙ rw (before-is (n .before), old)),
       rw all (c .before .before .write .ensures
           ∙ rw (next, new, noted-part ts (a .code) (a .verdict) (a .net) (a .target) all) (taken-written ts (a .code) (a .verdict) (a .net) (a .target) all)),
     )
