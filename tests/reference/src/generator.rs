@@ -8,6 +8,7 @@ pub mod margin;
 pub mod mixed;
 pub mod plate;
 pub mod random;
+pub mod reports;
 pub mod samples;
 
 use std::io::{self, Write};
@@ -17,6 +18,7 @@ use exits::Exits;
 use limit::Limit;
 use margin::Margin;
 use mixed::Mixed;
+use reports::Reports;
 use samples::Samples;
 
 /// A source of input lines, each without its LF.
@@ -35,6 +37,7 @@ pub fn source(kind: &str, seed: u64, lines: u64) -> Option<Box<dyn Source>> {
         "samples" => Some(Box::new(Samples::new(seed))),
         "mixed" => Some(Box::new(Mixed::new(seed))),
         "damaged" => Some(Box::new(Damaged::new(seed, lines))),
+        "reports" => Some(Box::new(Reports::new(seed))),
         "limit" => Some(Box::new(Limit::new(seed))),
         "exits" => Some(Box::new(Exits::new(seed))),
         "margin" => Some(Box::new(Margin::new(seed))),

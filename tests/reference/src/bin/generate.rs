@@ -5,7 +5,7 @@ use std::process::ExitCode;
 
 use reference::generator;
 
-const USAGE: &str = "usage: generate SEED LINES samples|mixed|damaged|limit|exits|margin";
+const USAGE: &str = "usage: generate SEED LINES samples|mixed|damaged|reports|limit|exits|margin";
 
 fn main() -> ExitCode {
     let arguments: Vec<String> = std::env::args().skip(1).collect();
