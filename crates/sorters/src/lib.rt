@@ -1,6 +1,8 @@
 // The six sorters of a line. The rule of one is `device::Sorter`'s; here it is applied to each, with what it is set to.
 ghost use mathlib.Core.Path.{_≡_};
+ghost use mathlib.Core.Bool.{not};
 ghost use Prim.Native.Nat.{_≤_};
+ghost use Rattle.device.specs.Sorter.{sorterFit};
 ghost use Rattle.event.specs.Setup.{sorterSetups};
 ghost use Rattle.sorters.specs.OneAlone.{OneAlone};
 ghost use Rattle.sorters.specs.Sorters.{tickedAs, entered, blocks, allOff, allTicked, allEntered, anyBlocks, anySorting, onBit, onBits, allFit};
@@ -10,10 +12,15 @@ use event::SorterSetup;
 
 // ---- one sorter
 
-fn ticked_as(sorter: Sorter, setup: SorterSetup) -> Sorter
+// With nothing waiting, and off, it stays: one test, and no place is copied.
+fn ticked_as(mut sorter: Sorter, setup: SorterSetup) -> Sorter
     ensures { λ r. ⌜ r ≡ tickedAs sorter setup ⌝ }
 {
-    sorter.ticked(setup.to)
+    if sorter.sorting() {
+        let next = sorter.ticked(setup.to);
+        sorter = next;
+    }
+    sorter
 }
 
 // With its bit in the mask a verdict enters the queue, if fewer than eight wait.
@@ -42,6 +49,16 @@ fn on_bit(sorter: Sorter) -> u64
     0
 }
 
+// One at rest is fit: one test, and no place is read.
+fn unfit(sorter: Sorter) -> bool
+    ensures { λ r. ⌜ r ≡ not (sorterFit sorter) ⌝ }
+{
+    if sorter.sorting() {
+        return !sorter.fit();
+    }
+    false
+}
+
 // ---- all six: sorter k stands at k - 1
 
 pub fn all_off() -> [Sorter; Setup::SORTERS]
@@ -51,21 +68,17 @@ pub fn all_off() -> [Sorter; Setup::SORTERS]
     [off; Setup::SORTERS]
 }
 
-// A running tick.
+// A running tick. No loop: the six are then kept apart, and those at rest where they are.
 pub fn all_ticked(sorters: [Sorter; Setup::SORTERS], setup: Setup) -> [Sorter; Setup::SORTERS]
     ensures { λ r. ⌜ r ≡ allTicked sorters (sorterSetups setup) ⌝ }
 {
-    let setups = setup.sorters();
-    let mut all = sorters;
-    let mut i: usize = 0;
-    while i < Setup::SORTERS {
-        let sorter = all[i];
-        let part = setups[i];
-        let next = ticked_as(sorter, part);
-        all[i] = next;
-        i += 1;
-    }
-    all
+    let one = ticked_as(sorters[0], setup.sorter1);
+    let two = ticked_as(sorters[1], setup.sorter2);
+    let three = ticked_as(sorters[2], setup.sorter3);
+    let four = ticked_as(sorters[3], setup.sorter4);
+    let five = ticked_as(sorters[4], setup.sorter5);
+    let six = ticked_as(sorters[5], setup.sorter6);
+    [one, two, three, four, five, six]
 }
 
 // A verdict enters the queue of every sorter whose mask has its bit.
@@ -140,7 +153,7 @@ pub fn all_fit(sorters: [Sorter; Setup::SORTERS]) -> bool
     let mut i: usize = 0;
     while i < Setup::SORTERS {
         let sorter = sorters[i];
-        if !sorter.fit() {
+        if unfit(sorter) {
             return false;
         }
         i += 1;

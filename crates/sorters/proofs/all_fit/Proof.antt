@@ -30,13 +30,13 @@ unfolding allFit
 returns c =
     let l = c .before .before .before .before .loop in
     let ss = c .before .before .before .before .before .args .t1 in
-    sym (l .inv .2 ∙ all-next sorterFit sorterCount ss (l .i) _ (omega arith) (omega arith) (sym (c .before .fit .ensures) ∙ not-true _ (c .if1 .taken)))
+    sym (l .inv .2 ∙ all-next sorterFit sorterCount ss (l .i) _ (omega arith) (omega arith) (not-true _ (sym (c .before .unfit .ensures) ∙ c .if1 .taken)))
 
 loop-again : tie.Need-loop-again Inv-loop μ-loop
 loop-again c =
     let l = c .before .before .before .before .loop in
     let ss = c .before .before .before .before .before .args .t1 in
-    (l .inv .0, omega arith, l .inv .2 ∙ all-next sorterFit sorterCount ss (l .i) _ (omega arith) (omega arith) (sym (c .before .fit .ensures) ∙ not-false _ (c .if1 .left)))
+    (l .inv .0, omega arith, l .inv .2 ∙ all-next sorterFit sorterCount ss (l .i) _ (omega arith) (omega arith) (not-false _ (sym (c .before .unfit .ensures) ∙ c .if1 .left)))
 
 returns-2 : tie.Need-returns-2 Inv-loop μ-loop
 unfolding allFit

@@ -1,58 +1,54 @@
--- `all_ticked`: the sorters before place i have ticked. Assumes nothing.
+-- `all_ticked` ticks the six, each with what it is set to. Assumes nothing.
 use borrow.Author.Needs.{needs}
-use mathlib.Core.Path.{_≡_, refl, ap, _∙_}
-use Prim.Native.Nat.{_-_, _≤_}
+use mathlib.Core.List.{List, [], _∷_}
+use mathlib.Core.Path.{_≡_, refl}
 use native.Mathlib.Omega.{arith}
-use native.Mathlib.Numerals.{add-one}
-use lib.ListN.{length}
-use Rattle.event.specs.Setup.{sorterCount}
+use lib.ListN.{length, getD}
 use Rattle.lists.specs.Each.{eachPair}
-use Rattle.lists.proofs.Pairs.{pairsTo, pairs-none, pairs-next, pairs-done}
+use Rattle.device.specs.declared.sorter.Sorter.{Sorter}
+use Rattle.event.specs.Setup.{sorterCount, sorterSetups}
+use Rattle.event.specs.declared.Setup.{Setup}
 use Rattle.sorters.specs.Sorters.{tickedAs, allTicked}
 use Rattle.sorters.proofs.all_ticked.Statement.{statement}
 use Rattle.sorters.proofs.all_ticked.Tie as tie
 
-abbrev Inv-loop : tie.InvT-loop
-Inv-loop setups all₀ i₀ all i =
-    (length all₀ ≡ sorterCount) × (length setups ≡ sorterCount) × (i ≤ sorterCount) × (all ≡ pairsTo tickedAs all₀ setups i)
+-- the six places, one by one
+six : (l : List Sorter) (c : Setup) (d : Sorter) → length l ≡ sorterCount
+    → tickedAs (getD l 0 d) (c .sorter1) ∷ tickedAs (getD l 1 d) (c .sorter2) ∷ tickedAs (getD l 2 d) (c .sorter3)
+    ∷ tickedAs (getD l 3 d) (c .sorter4) ∷ tickedAs (getD l 4 d) (c .sorter5) ∷ tickedAs (getD l 5 d) (c .sorter6) ∷ []
+    ≡ eachPair tickedAs l (sorterSetups c)
+unfolding eachPair
+six [] c d h = absurd (omega (arith, h))
+six (s₁ ∷ []) c d h = absurd (omega (arith, h))
+six (s₁ ∷ s₂ ∷ []) c d h = absurd (omega (arith, h))
+six (s₁ ∷ s₂ ∷ s₃ ∷ []) c d h = absurd (omega (arith, h))
+six (s₁ ∷ s₂ ∷ s₃ ∷ s₄ ∷ []) c d h = absurd (omega (arith, h))
+six (s₁ ∷ s₂ ∷ s₃ ∷ s₄ ∷ s₅ ∷ []) c d h = absurd (omega (arith, h))
+six (s₁ ∷ s₂ ∷ s₃ ∷ s₄ ∷ s₅ ∷ s₆ ∷ []) c d h = refl
+six (s₁ ∷ s₂ ∷ s₃ ∷ s₄ ∷ s₅ ∷ s₆ ∷ s₇ ∷ l) c d h = absurd (omega (arith, h))
 
-abbrev μ-loop : tie.MeasureT-loop
-μ-loop setups all₀ i₀ all i = sorterCount - i
-
-loop-holds : tie.Need-loop-holds Inv-loop μ-loop
-loop-holds c = (search needs, rw (c .sorters .ensures) refl, omega arith, pairs-none tickedAs (c .before .args .sorters) (c .sorters .result))
-
-loop-again : tie.Need-loop-again Inv-loop μ-loop
-loop-again c =
-    let l = c .before .before .before .before .loop in
-    let a = c .before .before .before .before .before .before .args in
-    let setups = c .before .before .before .before .before .sorters .result in
-    (l .inv .0, l .inv .1, omega arith, rw (c .ticked-as .ensures, l .inv .3, add-one) (pairs-next tickedAs (a .sorters) setups (l .i) _ _ (omega arith) (omega arith)))
-
-returns : tie.Need-returns Inv-loop μ-loop
+returns : tie.Need-returns
 unfolding allTicked
 returns c =
-    let l = c .before .loop in
-    let a = c .before .before .before .args in
-    let told = c .before .before .sorters in
-    l .inv .3 ∙ pairs-done tickedAs (a .sorters) (told .result) (l .i) (omega arith) (omega arith) ∙ ap (eachPair tickedAs (a .sorters)) (told .ensures)
+    let one = c .before .before .before .before .before .before .before .before .before .before in
+    let a = one .before .before .args in
+    rw (
+      one .ticked-as .ensures,
+      c .before .before .before .before .before .before .before .before .ticked-as2 .ensures,
+      c .before .before .before .before .before .before .ticked-as3 .ensures,
+      c .before .before .before .before .ticked-as4 .ensures,
+      c .before .before .ticked-as5 .ensures,
+      c .ticked-as6 .ensures,
+    ) (six (a .t1) (a .setup) _ (search needs))
 
 pub all-ticked-spec : {M : Type 1} → statement M
 all-ticked-spec =
     tie.close
     (tie.spec
-    Inv-loop
-    μ-loop
-    (search needs)
-    loop-holds
-    (λ c. omega arith)
-    (λ c. omega arith)
-    (λ c. omega arith)
-    (λ c. omega arith)
-    (search needs)
-    (λ c. omega arith)
-    (λ c. omega arith)
-    (λ c. omega arith)
-    (λ c. omega arith)
-    loop-again
+    (λ c. omega arith) (search needs)
+    (λ c. omega arith) (search needs)
+    (λ c. omega arith) (search needs)
+    (λ c. omega arith) (search needs)
+    (λ c. omega arith) (search needs)
+    (λ c. omega arith) (search needs)
     returns)
