@@ -15,7 +15,7 @@ pub struct Done {
     // divisions, 0 unless the outcome is a grade, 1 to 5
     pub net: i64,
     pub tallied: u64,
-    // 0, 1, 2, 5 or 6, or NO_ERROR
+    // 0, 1, 2, 5, 6 or 7, or NO_ERROR
     pub error: u64,
 }
 
