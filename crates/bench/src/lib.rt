@@ -1,5 +1,7 @@
 // Bench mode of document 02, T-02: whether the line is armed, and the grosses of its last running ticks. A line in another
 // mode keeps none, and then each test of them costs one comparison.
+#![tactic(auto)]
+
 ghost use Rattle.std.specs.Prelude.{◌≡◌, true, ◌-ℤ◌, ◌-◌, ltb};
 ghost use Rattle.lists.specs.Each.{all_of};
 ghost use Rattle.weight.specs.Weight.{is_weight};

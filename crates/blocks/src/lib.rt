@@ -7,6 +7,8 @@
 //
 // No call has a condition that its caller must see to. Only these functions make a `Left` or a `Taken`: whoever holds one
 // that says the input has ended has had it from a read.
+#![tactic(auto)]
+
 mod left;
 mod lines;
 mod number;

@@ -1,4 +1,6 @@
 // The checkweigher: lines from standard input, each answered on standard output.
+#![tactic(auto)]
+
 mod input;
 
 use input::serve_input;

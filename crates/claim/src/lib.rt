@@ -1,4 +1,6 @@
 // Demand 3: no box is counted twice or lost, whatever list of events comes.
+#![tactic(auto)]
+
 ghost use Rattle.claim.specs.BenchMode.{BenchMode};
 ghost use Rattle.claim.specs.Claim.{Claim};
 ghost use Rattle.claim.specs.Example.{Example};

@@ -35,6 +35,8 @@
 // nothing has changed: `full` is 1, and the caller calls again with room.
 //
 // No call has a condition that its caller must see to.
+#![tactic(auto)]
+
 ghost use Rattle.std.specs.Prelude.{◌+◌, ◌≤◌, ◌≡◌, length};
 ghost use Rattle.line.specs.State.{state};
 ghost use Rattle.print.specs.Reply.{reply_text};

@@ -1,4 +1,6 @@
 // The foreign detector, some boxes before the scale: the signals that are under way to it.
+#![tactic(auto)]
+
 ghost use Rattle.std.specs.Prelude.{◌≡◌};
 ghost use Rattle.time.specs.Time.{fallen};
 ghost use Rattle.detector.specs.Foreign.{eight_carried, due, delays_fallen, signalled, foreign_ticked, oldest_used, no_signal, foreign_fit};

@@ -1,5 +1,7 @@
 // The twelve kinds of event, and which values of their fields are refused 2 (range) or 4 (contradiction).
 // The fields are wide enough to carry values out of range.
+#![tactic(auto)]
+
 ghost use Rattle.std.specs.Prelude.{◌≡◌};
 ghost use Rattle.event.specs.Setup.{fresh_setup, sorter_setups, sorter_ranged, sorters_ranged, setup_ranged, edge_agrees, masks_agree, setup_agrees, setup_fit};
 ghost use Rattle.event.specs.Sample.{sample_ranged};

@@ -3,6 +3,8 @@
 //
 // `read_entry` tells what a line says: a call begins, a verdict's tick, a signal's tick, or none of these. `call_lines` pairs
 // the lists of a call and writes its answer. Neither asks anything of its caller.
+#![tactic(auto)]
+
 mod entry;
 mod lines;
 

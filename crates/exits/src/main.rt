@@ -1,4 +1,6 @@
 // The exit eye's program: lines from standard input that give calls, and on standard output the pairs and the counts of each.
+#![tactic(auto)]
+
 mod input;
 mod session;
 

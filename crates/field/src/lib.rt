@@ -1,4 +1,6 @@
 // A field of a line, `key=value`, at a place: document 01, "Text lines". For the programs whose lines have a field or two.
+#![tactic(auto)]
+
 ghost use Rattle.std.specs.Prelude.{◌≡◌, drop};
 ghost use Rattle.numeral.specs.Found.{found, held_head};
 ghost use Rattle.field.specs.Field.{field_head};

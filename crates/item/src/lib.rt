@@ -1,4 +1,6 @@
 // The item in hand.
+#![tactic(auto)]
+
 ghost use Rattle.std.specs.Prelude.{◌≡◌, true};
 ghost use Rattle.weight.specs.Weight.{is_weight};
 ghost use Rattle.item.specs.Item.{in_hand, item_fit, new_item, ticked, weighed};

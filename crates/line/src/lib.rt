@@ -1,4 +1,6 @@
 // The line: its record, and the twelve kinds of event on it.
+#![tactic(auto)]
+
 mod apply;
 mod command;
 mod effect;

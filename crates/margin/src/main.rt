@@ -1,4 +1,6 @@
 // Metrology staff's program: lines from standard input that give calls, and on standard output the possible outcomes of each.
+#![tactic(auto)]
+
 mod input;
 mod session;
 

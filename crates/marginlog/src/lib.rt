@@ -3,6 +3,8 @@
 //
 // `read_entry` tells what a line says: a call begins, a code's settings, a sample, or none of these. `call_line` makes the call
 // and writes its answer. Neither asks anything of its caller.
+#![tactic(auto)]
+
 mod entry;
 mod lines;
 

@@ -1,4 +1,6 @@
 // The masks of a setup: which verdicts sort or stop, which safety inputs are required.
+#![tactic(auto)]
+
 ghost use Rattle.std.specs.Prelude.{◌≡◌};
 ghost use Rattle.mask.specs.Bits.{marked, lowest_off};
 

@@ -1,4 +1,6 @@
 // Numbers at a place of a line, held at a limit that is out of every field's range.
+#![tactic(auto)]
+
 ghost use Rattle.std.specs.Prelude.{◌≡◌, ◌≤◌, min, drop};
 ghost use Rattle.numeral.specs.Number.{is_digit, signed, digits, positive, number_head, four_head, limit, unsigned_of};
 ghost use Rattle.numeral.specs.Found.{byte_is, digit_from, held_head, found, four_of};

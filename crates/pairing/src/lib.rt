@@ -2,6 +2,8 @@
 //
 // Packers fit an eye behind the sorter and keep its ticks. `pair_exits` gives the sorted verdicts and the eye's signals a
 // largest pairing. It reads two lists and writes one lent buffer; no line, settings or tally is in its reach.
+#![tactic(auto)]
+
 ghost use Rattle.std.specs.Prelude.{◌≡◌, true, ◌*◌, ◌≤◌, length};
 ghost use Rattle.time.specs.Time.{longest};
 ghost use Rattle.pairing.specs.Answer.{rises, in_order, ticks_fit, in_window, refusal_of, Answered};

@@ -1,4 +1,6 @@
 // Beside a code's tally, its 21 class counts: the class of a net, and the counts as the line keeps them.
+#![tactic(auto)]
+
 ghost use Rattle.part.specs.Law.{ClassLaw};
 
 mod class;

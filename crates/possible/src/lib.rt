@@ -2,6 +2,8 @@
 //
 // Metrology staff know each gross only to plus or minus e divisions. `possible_outcomes` says which outcomes a box can have
 // whose samples are these within e. It reads one list and a settings record; no line, memory or sheet is in its reach.
+#![tactic(auto)]
+
 ghost use Rattle.std.specs.Prelude.{◌≡◌, true, ◌≤◌, ◌<◌, nat_abs, length};
 ghost use Rattle.laws.specs.Choice.{bit};
 ghost use Rattle.weight.specs.Weight.{largest_weight, is_weight};

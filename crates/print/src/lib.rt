@@ -1,4 +1,6 @@
 // The lines that the program prints: document 01, "Text lines". They are written straight into a lent buffer.
+#![tactic(auto)]
+
 mod buffer;
 mod field;
 mod place;

@@ -1,5 +1,7 @@
 // A queue of waits: the first n places are taken, in the order in which the waits came. The others hold 0 and are not read.
 // A wait is a time, so sixteen bits hold it: a line is copied with each event.
+#![tactic(auto)]
+
 ghost use Rattle.std.specs.Prelude.{◌≡◌, []};
 ghost use Rattle.queue.specs.Queue.{laid, waiting, is_empty, is_full, queue_ticked, joined, queue_fit};
 

@@ -1,4 +1,6 @@
 // The lent memory of the settings: a list of records, one for each code.
+#![tactic(auto)]
+
 ghost use Rattle.std.specs.Prelude.{◌≡◌, set, get_or};
 ghost use Rattle.settings.specs.Settings.{blank};
 

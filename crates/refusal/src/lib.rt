@@ -1,4 +1,6 @@
 // The refusals, in the order of the table: the first condition that holds gives the number.
+#![tactic(auto)]
+
 ghost use Rattle.std.specs.Prelude.{◌≡◌};
 ghost use Rattle.refusal.specs.Table.{first_holding, table};
 

@@ -1,4 +1,6 @@
 // Events run by the code: what the claim of demand 3 says of every list of events holds of what the controller does.
+#![tactic(auto)]
+
 ghost use Rattle.std.specs.Prelude.{◌≡◌, length};
 ghost use Rattle.tallies.specs.Memory.{tallies_length};
 ghost use Rattle.line.specs.State.{state};

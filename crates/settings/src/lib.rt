@@ -1,4 +1,6 @@
 // A code's settings: its limits, the tare, and the grade of a net weight under them.
+#![tactic(auto)]
+
 ghost use Rattle.std.specs.Prelude.{◌≡◌};
 ghost use Rattle.settings.specs.Settings.{is_code, all_there, is_load, record_ranged, limits_ordered, record_fit, blank};
 ghost use Rattle.settings.specs.Grade.{grade_of};

@@ -1,4 +1,6 @@
 // A code's sheet: the figures of its tally, and the report that asks for them.
+#![tactic(auto)]
+
 mod answer;
 mod memory;
 mod sheet;

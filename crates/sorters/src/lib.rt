@@ -1,4 +1,6 @@
 // The six sorters of a line. The rule of one is `device::Sorter`'s; here it is applied to each, with what it is set to.
+#![tactic(auto)]
+
 ghost use Rattle.std.specs.Prelude.{◌≡◌, not, ◌≤◌};
 ghost use Rattle.device.specs.Sorter.{sorter_fit};
 ghost use Rattle.event.specs.Setup.{sorter_setups};

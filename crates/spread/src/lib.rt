@@ -1,5 +1,7 @@
 // The spread of a tally in tenths of a division, exactly: document 01, "The sheet's figures", as request T-06 of 02 changes
 // it. Below, n is the number of its graded verdicts, q their sum of squares and s the size of their sum.
+#![tactic(auto)]
+
 ghost use Rattle.std.specs.Prelude.{◌≡◌, true, ◌+◌, ◌*◌, ◌≤◌, ◌<◌, leb};
 ghost use Rattle.tally.specs.Tally.{tally_limit};
 ghost use Rattle.spread.specs.Root.{Largest};

@@ -1,4 +1,6 @@
 // The line's status and error: their numbers, the error that a verdict stops the line with, and when the conveyor runs.
+#![tactic(auto)]
+
 ghost use Rattle.std.specs.Prelude.{◌≡◌};
 ghost use Rattle.status.specs.Status.{error_known, error_for, conveyor_runs};
 

@@ -1,4 +1,6 @@
 // The lent memory of the tallies: a hundred parts of 34 numbers, a tally's thirteen and the 21 class counts.
+#![tactic(auto)]
+
 ghost use Rattle.std.specs.Prelude.{◌≡◌, true, ◌&&◌, map, ◌+◌, ◌<◌, ◌≤◌, ◌^◌, eqb, pos, nat_abs, length, get_or};
 ghost use Rattle.std.specs.Int.Signed.{le_z};
 ghost use Rattle.lists.specs.Each.{all_of};

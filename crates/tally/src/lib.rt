@@ -1,4 +1,6 @@
 // A code's tally, by value.
+#![tactic(auto)]
+
 mod tally;
 
 pub use tally::{Noted, Tally};

@@ -1,4 +1,6 @@
 // What a line of text says: an event, a report, or neither.
+#![tactic(auto)]
+
 use event::Event;
 
 mod form;

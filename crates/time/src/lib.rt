@@ -1,4 +1,6 @@
 // Times are in ticks of 10 ms.
+#![tactic(auto)]
+
 ghost use Rattle.std.specs.Prelude.{◌≡◌};
 ghost use Rattle.time.specs.Time.{is_time, fallen};
 

@@ -1,4 +1,6 @@
 // What a cancel puts back, and how a verdict and its cancel change the lent tallies.
+#![tactic(auto)]
+
 ghost use Rattle.std.specs.Prelude.{◌≡◌};
 ghost use Rattle.undo.specs.Undo.{nothing, kept_as, no_chance, undo_fit, kept_of, noted_in, put_back};
 

@@ -1,4 +1,6 @@
 // Weights and their rounded mean: document 01, "From sensor to sheet" and step 6 of a sample.
+#![tactic(auto)]
+
 ghost use Rattle.std.specs.Prelude.{◌≡◌, nat_abs};
 ghost use Rattle.weight.specs.Weight.{is_weight};
 

@@ -18,7 +18,7 @@ pub enum Case {
 
 // The sum over n to the nearest, halves away from zero; none at n = 0.
 pub fn mean_of(sum: i64, n: u64) -> Figure
-    ensures* { λ r. ⌜ r ≡ mean_of sum n ⌝ }
+    ensures { result ≡ mean_of sum n }
 {
     if n == 0 {
         return Figure::None;
@@ -30,13 +30,13 @@ pub fn mean_of(sum: i64, n: u64) -> Figure
 
 // Exactly one case holds, each has its own result, and that is the rounding.
 pub fn rounding_by_cases()
-    ensures* { λ _. ⌜ RoundingByCases ⌝ }
+    ensures { RoundingByCases }
 {}
 
 // The case that holds. The remainder is compared with what it lacks of n, so that nothing is doubled.
 fn case_of(sum: i64, n: u64) -> Case
     requires { 0 < n }
-    ensures* { λ r. ⌜ holds r sum n ≡ true ⌝ }
+    ensures { holds result sum n ≡ true }
 {
     let remainder = size(sum) % n;
     let lacks = n - remainder;
@@ -62,7 +62,7 @@ impl Case {
     // The whole quotient without sign, one more from half on, then the sign.
     fn result(self, sum: i64, n: u64) -> i64
         requires { (0 < n) × (holds self sum n ≡ true) }
-        ensures* { λ r. ⌜ r ≡ result self sum n ⌝ }
+        ensures { result ≡ result self sum n }
     {
         let quotient = size(sum) / n;
         match self {
@@ -79,7 +79,7 @@ impl Case {
 // q with a minus: -1 less q - 1, since q itself may be 2^63.
 fn negative(q: u64) -> i64
     requires { q ≤ 2 ^ 63 }
-    ensures* { λ r. ⌜ r ≡ neg_ℤ (pos q) ⌝ }
+    ensures { result ≡ neg_ℤ (pos q) }
 {
     if q == 0 {
         return 0;

@@ -2,6 +2,8 @@
 // spread can be read back, and demand 3 holds of every text that comes in.
 // The functions say nothing of the code: their contracts are theorems on the definitions that the reader and the
 // printer equal.
+#![tactic(auto)]
+
 ghost use Rattle.wording.specs.OneText.{OneText};
 ghost use Rattle.wording.specs.Reading.{Reading};
 ghost use Rattle.wording.specs.Printing.{Printing};
