@@ -10,7 +10,7 @@ ghost use Rattle.bench.specs.Bench.{last_ticks, fresh_bench, with_armed, begun, 
 
 use weight::is_weight;
 
-#[derive(Drop)]
+#[derive(Clone, Copy)]
 pub struct Bench {
     // 0 if not armed
     pub armed: u64,

@@ -11,7 +11,7 @@ const KEPT: usize = LONGEST_LINE + 1;
 
 // The bytes of a buffer from `start` to `end`. `over` is 0 while more may come, 1 once the input has ended, and 2 once a read
 // has failed.
-#[derive(Drop)]
+#[derive(Clone, Copy)]
 pub struct Left {
     pub start: usize,
     pub end: usize,

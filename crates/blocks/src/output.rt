@@ -7,7 +7,7 @@ use crate::number::least;
 use libc::STDOUT_FILENO;
 
 // Of so many bytes, how many `write` has taken.
-#[derive(Drop)]
+#[derive(Clone, Copy)]
 pub struct Taken {
     of: usize,
     taken: usize,

@@ -7,7 +7,7 @@ use blocks::{Left, Taken};
 
 // How a program ends: no more input comes, and the `Left` says whether it has ended or a read failed; `write` did not take
 // all that was due; or the turns are used up, so many.
-#[derive(Drop)]
+#[derive(Clone, Copy)]
 pub enum Ended {
     Input(Left),
     Output(Taken),

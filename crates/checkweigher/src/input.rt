@@ -11,7 +11,7 @@ use settings::{RECORDS, Settings};
 
 // How the program ends: no more input comes, and the `Left` says whether it has ended or a read failed; `write` did not take
 // all that was due; or the turns are used up, so many.
-#[derive(Drop)]
+#[derive(Clone, Copy)]
 pub(crate) enum Ended {
     Input(Left),
     Output(Taken),

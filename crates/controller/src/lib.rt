@@ -59,7 +59,7 @@ pub use weight::Figure;
 
 // The next line, and how many bytes of the output are answers now. `full` is 1 where there was too little room and nothing
 // was done, else 0.
-#[derive(Drop)]
+#[derive(Clone, Copy)]
 pub struct Served {
     pub line: Line,
     pub at: usize,

@@ -7,7 +7,7 @@ ghost use Rattle.detector.specs.Foreign.{eight_carried, due, delays_fallen, sign
 
 use queue::Queue;
 
-#[derive(Drop)]
+#[derive(Clone, Copy)]
 pub struct Foreign {
     // the delay left of each, in ticks, 0 to time::LONGEST; the oldest stands first. At 0 it has ended
     pub signals: Queue,

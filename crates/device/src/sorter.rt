@@ -5,7 +5,7 @@ ghost use Rattle.device.specs.Sorter.{full, sorting, sorter_ticked, queued, sort
 use queue::Queue;
 use time::{fallen, is_time};
 
-#[derive(Drop)]
+#[derive(Clone, Copy)]
 pub struct Sorter {
     pub queue: Queue,
     pub on: u64,

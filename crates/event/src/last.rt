@@ -4,7 +4,7 @@ ghost use Rattle.event.specs.Sample.{last_fit};
 
 use weight::is_weight;
 
-#[derive(Drop)]
+#[derive(Clone, Copy)]
 pub struct Last {
     // divisions, a weight
     pub gross: i64,

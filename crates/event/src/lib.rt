@@ -19,7 +19,7 @@ use weight::is_weight;
 
 // What one of the six sorters is set to: its wait ts and its on-time to, in ticks of 10 ms, 1 to 9,999; and the mask of the
 // verdicts that enter its queue, 0 to 255 with bit 0 clear.
-#[derive(Drop)]
+#[derive(Clone, Copy)]
 pub struct SorterSetup {
     pub ts: u64,
     pub to: u64,
@@ -28,7 +28,7 @@ pub struct SorterSetup {
 
 // What stopped status lets one set up: timers are in ticks of 10 ms, 0 or 1 to 9,999; masks are 0 to 255. An event holds it,
 // and an enum that holds an array is not covered: so the sorters are six fields, and `sorters` gives them as an array.
-#[derive(Drop)]
+#[derive(Clone, Copy)]
 pub struct Setup {
     // 1 in through, 2 stop, 4 bench
     pub mode: u64,
@@ -49,7 +49,7 @@ pub struct Setup {
 }
 
 // What the inputs say on one tick: levels are 0 or 1, safety has input k as bit k - 1.
-#[derive(Drop)]
+#[derive(Clone, Copy)]
 pub struct Sample {
     // divisions, a weight
     pub gross: i64,
@@ -59,7 +59,7 @@ pub struct Sample {
     pub foreign: u64,
 }
 
-#[derive(Drop)]
+#[derive(Clone, Copy)]
 pub enum Event {
     Sample(Sample),
     Run,

@@ -1,7 +1,7 @@
 // What an event answers.
 
 // The answer to an accepted event: what the line shows after it, and what the event did.
-#[derive(Drop)]
+#[derive(Clone, Copy)]
 pub struct Done {
     // 0 stopped, 1 running, 2 paused, 3 emergency
     pub status: u64,
@@ -26,7 +26,7 @@ impl Done {
 }
 
 // A refusal's number, with the number of the lowest required input that is off (0 but for refusal 5); or what was done.
-#[derive(Drop)]
+#[derive(Clone, Copy)]
 pub enum Reply {
     Refused { number: u64, input: u64 },
     Done(Done),

@@ -11,7 +11,7 @@ use text::LONGEST_LINE;
 // What a line says: `a= b=` begins a call, `verdict=` and `signal=` give a tick. A tick that 64 bits do not hold, too large or
 // negative, is too wide; a bound of the window that is negative or above 1,000,000,000 is given as 1,000,000,000, which is in
 // no window.
-#[derive(Drop)]
+#[derive(Clone, Copy)]
 pub enum Entry {
     Begin { a: u64, b: u64 },
     Verdict(u64),
@@ -21,7 +21,7 @@ pub enum Entry {
 }
 
 // The number of a field that is the whole line: no such field, a tick, or one that 64 bits do not hold.
-#[derive(Drop)]
+#[derive(Clone, Copy)]
 pub(crate) enum Tick {
     Nothing,
     Of(u64),

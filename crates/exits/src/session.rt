@@ -15,7 +15,7 @@ use print::reply_line;
 pub(crate) const PLACES: usize = LONGEST_LIST + 1;
 
 // The call that is being read. Its lists are the first `verdicts` and the first `signals` numbers of the memories.
-#[derive(Drop)]
+#[derive(Clone, Copy)]
 pub(crate) struct Call {
     // there is one
     pub(crate) begun: bool,
@@ -28,7 +28,7 @@ pub(crate) struct Call {
 }
 
 // What a line leaves: the call behind it, and how many bytes it prints.
-#[derive(Drop)]
+#[derive(Clone, Copy)]
 pub(crate) struct Served {
     pub(crate) call: Call,
     pub(crate) at: usize,

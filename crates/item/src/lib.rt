@@ -10,7 +10,7 @@ use time::LONGEST;
 use weight::{Figure, LARGEST, is_weight, mean_of, size};
 
 // None, waiting with ticks left, or averaging with ticks left and a sum (divisions).
-#[derive(Drop)]
+#[derive(Clone, Copy)]
 pub enum Item {
     None,
     Waiting(u64),
@@ -18,7 +18,7 @@ pub enum Item {
 }
 
 // What a running tick makes of the item in hand: an item still, or the rounded mean (divisions).
-#[derive(Drop)]
+#[derive(Clone, Copy)]
 pub enum Weighed {
     Still(Item),
     Mean(i64),

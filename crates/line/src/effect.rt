@@ -8,7 +8,7 @@ use event::{Done, Reply};
 use item::Item;
 use sorters::all_off;
 
-#[derive(Drop)]
+#[derive(Clone, Copy)]
 pub struct Effect {
     pub line: Line,
     pub detected: u64,

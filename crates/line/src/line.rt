@@ -14,7 +14,7 @@ use tally::Tally;
 use undo::Undo;
 
 // What stands behind the item is copied with the seven bytes behind its tag, as a block: so the undo and the bench stand before it.
-#[derive(Drop)]
+#[derive(Clone, Copy)]
 pub struct Line {
     pub status: u64,
     pub error: u64,

@@ -14,7 +14,7 @@ use sorters::all_ticked;
 
 // What a running tick is given: the active code's record, the gross (divisions), whether the foreign level rose and whether
 // the settled level made the chosen edge.
-#[derive(Drop)]
+#[derive(Clone, Copy)]
 pub(crate) struct Tick {
     pub(crate) active: Settings,
     pub(crate) gross: i64,

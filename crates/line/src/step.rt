@@ -4,7 +4,7 @@ use crate::storing::Storing;
 use event::Reply;
 
 // The next line with the reply, and which settings record the event replaced.
-#[derive(Drop)]
+#[derive(Clone, Copy)]
 pub struct Step {
     pub line: Line,
     pub reply: Reply,

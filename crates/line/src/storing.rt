@@ -6,7 +6,7 @@ use crate::step::Step;
 use settings::Settings;
 
 // Nothing, or a code, 0 to 99, and its record.
-#[derive(Drop)]
+#[derive(Clone, Copy)]
 pub enum Storing {
     Nothing,
     Record(u64, Settings),

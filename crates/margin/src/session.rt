@@ -15,7 +15,7 @@ use settings::Settings;
 pub(crate) const PLACES: usize = MOST_SAMPLES + 1;
 
 // The call that is being read. Its samples are the first `count` numbers of the memory.
-#[derive(Drop)]
+#[derive(Clone, Copy)]
 pub(crate) struct Call {
     // there is one
     pub(crate) begun: bool,
@@ -28,7 +28,7 @@ pub(crate) struct Call {
 }
 
 // What a line leaves: the call behind it, and how many bytes it prints.
-#[derive(Drop)]
+#[derive(Clone, Copy)]
 pub(crate) struct Served {
     pub(crate) call: Call,
     pub(crate) at: usize,

@@ -12,7 +12,7 @@ use text::{LONGEST_LINE, Read, read_line};
 
 // What a line says: `e=` begins a call with this margin, a store line gives a code and its settings, `gross=` a sample
 // (divisions). A number that is too small or too large stands as one that is out of range.
-#[derive(Drop)]
+#[derive(Clone, Copy)]
 pub enum Entry {
     Begin(u64),
     Store(u64, Settings),
@@ -21,7 +21,7 @@ pub enum Entry {
 }
 
 // The number of a line that is one field with a given key.
-#[derive(Drop)]
+#[derive(Clone, Copy)]
 pub(crate) enum Value {
     Nothing,
     Of(i64),

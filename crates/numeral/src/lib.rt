@@ -8,7 +8,7 @@ ghost use Rattle.numeral.specs.Found.{byte_is, digit_from, held_head, found, fou
 const LIMIT: u64 = 1000000000;
 
 // Nothing of the kind looked for, or its value and the place behind it.
-#[derive(Drop)]
+#[derive(Clone, Copy)]
 pub enum Found {
     Nothing,
     Value { value: i64, next: usize },

@@ -25,7 +25,7 @@ pub const WINDOW: u64 = 17;
 pub const PAIRS: u64 = 18;
 
 // How many verdicts have a signal, how many have none, and how many signals have no verdict: each 0 to LONGEST_LIST.
-#[derive(Drop)]
+#[derive(Clone, Copy)]
 pub struct Counts {
     pub pairs: u64,
     pub missing: u64,
@@ -33,7 +33,7 @@ pub struct Counts {
 }
 
 // The number of the refusal, and then nothing is written; or the counts, with the pairs in the buffer.
-#[derive(Drop)]
+#[derive(Clone, Copy)]
 pub enum Answer {
     Refused(u64),
     Paired(Counts),

@@ -10,7 +10,7 @@ use weight::is_weight;
 
 // Three counts to a number, those of classes k, k + 1 and k + 2 in `from_k`, as digits in a base that no count reaches: a line
 // keeps them, and is copied several times at every event.
-#[derive(Drop)]
+#[derive(Clone, Copy)]
 pub struct Classes {
     pub from_0: u64,
     pub from_3: u64,

@@ -27,7 +27,7 @@ pub const WIDEST: u64 = 1_000;
 pub const SAMPLES: u64 = 15;
 
 // The number of the refusal; or the mask with bit k for each possible outcome k, 1 to 5 (the grades) and 9 (dismissed).
-#[derive(Drop)]
+#[derive(Clone, Copy)]
 pub enum Outcomes {
     Refused(u64),
     Possible(u64),

@@ -7,7 +7,7 @@ ghost use Rattle.queue.specs.Queue.{laid, waiting, is_empty, is_full, queue_tick
 
 use time::{LONGEST, is_time};
 
-#[derive(Drop)]
+#[derive(Clone, Copy)]
 pub struct Queue {
     pub waits: [u16; Queue::PLACES as usize],
     pub n: u64,

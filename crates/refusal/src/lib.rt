@@ -33,7 +33,7 @@ pub const OCCUPIED: u64 = 6;
 pub const NOTHING: u64 = 7;
 
 // Which conditions of the table hold.
-#[derive(Drop)]
+#[derive(Clone, Copy)]
 pub struct Faults {
     pub memory: bool,
     pub form: bool,

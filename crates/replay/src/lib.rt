@@ -13,21 +13,21 @@ use line::{Line, Step};
 use settings::{RECORDS, Settings};
 
 // A line with its own hundred settings records.
-#[derive(Drop)]
+#[derive(Clone, Copy)]
 pub struct Plant {
     pub line: Line,
     pub settings: [Settings; RECORDS as usize],
 }
 
 // A step of the line, and the records after it.
-#[derive(Drop)]
+#[derive(Clone, Copy)]
 struct Stepped {
     step: Step,
     settings: [Settings; RECORDS as usize],
 }
 
 // The plant after an event, and the reply.
-#[derive(Drop)]
+#[derive(Clone, Copy)]
 pub struct Turned {
     pub plant: Plant,
     pub reply: Reply,

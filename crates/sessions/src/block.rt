@@ -9,7 +9,7 @@ use line::Line;
 use settings::{RECORDS, Settings};
 
 // What a block leaves: the line, the settings records, where what is left of the block begins, and where the answers end.
-#[derive(Drop)]
+#[derive(Clone, Copy)]
 pub struct Block {
     pub line: Line,
     pub settings: [Settings; RECORDS as usize],
@@ -21,7 +21,7 @@ pub struct Block {
 
 // A session over a block: the line of text that begins at `start` ends at `end`, and its answer goes to `at`. The line is
 // last, so that no place in a session depends on its size.
-#[derive(Drop)]
+#[derive(Clone, Copy)]
 pub(crate) struct Session {
     pub(crate) start: usize,
     pub(crate) end: usize,

@@ -26,7 +26,7 @@ pub fn all_there(count: u64) -> bool
 }
 
 // A code's settings, in divisions: nearzero and tare are 0 to 999,999, the others weights.
-#[derive(Drop)]
+#[derive(Clone, Copy)]
 pub struct Settings {
     pub target: i64,
     pub lolo: i64,

@@ -7,7 +7,7 @@ use refusal::{Faults, lengths_wrong};
 use settings::{Settings, is_code};
 
 // The answer to a report: 0 and the code's sheet, or the refusal's number and a blank sheet.
-#[derive(Drop)]
+#[derive(Clone, Copy)]
 pub struct Report {
     pub number: u64,
     pub input: u64,

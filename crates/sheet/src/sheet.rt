@@ -12,7 +12,7 @@ use spread::Spread;
 use tally::Tally;
 use weight::{Figure, mean_of};
 
-#[derive(Drop)]
+#[derive(Clone, Copy)]
 pub struct Sheet {
     pub total: u64,
     pub ng: u64,

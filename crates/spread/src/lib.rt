@@ -19,7 +19,7 @@ use wide::Wide;
 const TIMES: u64 = 100;
 
 // A spread in tenths of a division, or none where a tally has none.
-#[derive(Drop)]
+#[derive(Clone, Copy)]
 pub enum Spread {
     None,
     Of(u64), // tenths, below 15,000,000 for every tally

@@ -7,7 +7,7 @@ const BASE: u64 = 1_000_000_000_000;
 const HALF: u64 = 1_000_000; // HALF * HALF is BASE
 
 // hi * BASE + lo
-#[derive(Drop)]
+#[derive(Clone, Copy)]
 pub(crate) struct Wide {
     hi: u64,
     lo: u64,

@@ -6,7 +6,7 @@ ghost use Rattle.tally.specs.Tally.{graded, total, empty_tally, tally_fit, has_r
 
 use weight::{LARGEST, is_weight, size};
 
-#[derive(Drop)]
+#[derive(Clone, Copy)]
 pub struct Tally {
     pub lolo: u64,
     pub lo: u64,
@@ -24,7 +24,7 @@ pub struct Tally {
 }
 
 // What became of a verdict that was to be tallied: 1 and the tally with it, or 0 and the tally as it was.
-#[derive(Drop)]
+#[derive(Clone, Copy)]
 pub struct Noted {
     pub taken: u64,
     pub tally: Tally,

@@ -11,7 +11,7 @@ use numeral::{Found, byte_at, read_four, read_number};
 const MOST_VALUES: usize = 26;
 
 // The values of a line, where `ok`.
-#[derive(Drop)]
+#[derive(Clone, Copy)]
 pub(crate) struct Fields {
     pub(crate) values: [i64; MOST_VALUES],
     pub(crate) ok: bool,

@@ -14,7 +14,7 @@ pub use reader::read_line;
 // A line of text has at most so many bytes.
 pub const LONGEST_LINE: usize = 300;
 
-#[derive(Drop)]
+#[derive(Clone, Copy)]
 pub enum Read {
     Event(Event),
     Report(u64),

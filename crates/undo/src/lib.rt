@@ -10,7 +10,7 @@ use weight::is_weight;
 
 // The chance to cancel: 1 with a code's tally and class counts as before the last verdict, or 0. A number, not a bool or an
 // enum: what the compiler copies behind those costs time on every line of text.
-#[derive(Drop)]
+#[derive(Clone, Copy)]
 pub struct Undo {
     pub chance: u64,
     pub tally: Tally,

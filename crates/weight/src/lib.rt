@@ -12,7 +12,7 @@ pub use rounding::{Case, mean_of, rounding_by_cases};
 pub const LARGEST: u64 = 999_999;
 
 // A figure of the sheet, which may be none.
-#[derive(Drop)]
+#[derive(Clone, Copy)]
 pub enum Figure {
     None,
     Of(i64),

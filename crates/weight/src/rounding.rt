@@ -6,7 +6,7 @@ ghost use Rattle.weight.specs.Cases.{holds, result, RoundingByCases};
 use crate::{Figure, size};
 
 // The remainder below half, exactly half or above half of the number; the sum at least 0 or negative.
-#[derive(Drop)]
+#[derive(Clone, Copy)]
 pub enum Case {
     Below,
     Half,
