@@ -11,7 +11,7 @@ use Rattle.laws.specs.Choice.{if◌then◌else◌}
 use Rattle.laws.proofs.Signed.{not_neg}
 use Rattle.laws.proofs.Tests.{both, and_intro, by_cases}
 use Rattle.weight.specs.Mean.{nearest, rounded}
-use Rattle.weight.specs.Cases.{quotient, remainder, holds, result, OneCase}
+use Rattle.weight.specs.Cases.{quotient, remainder, holds, result_of, OneCase}
 use Rattle.weight.specs.declared.rounding.Case.{Case}
 use Rattle.weight.specs.declared.rounding.Case.TheVariants.{Below, Half, Above, NegativeBelow, NegativeHalf, NegativeAbove}
 use Rattle.weight.proofs.Sign.{as_pos, as_neg}
@@ -109,7 +109,7 @@ module _ (s : ℤ) (n : ℕ) where
   unfolding rounded
   as_negative z e = as_neg s (nearest (nat_abs s) n) (not_at_least s z) ∙ ap (λ (q : ℕ). neg_ℤ (pos q)) e
 
-  pub rounded_by : (c : Case) → holds c s n ≡ true → rounded s n ≡ result c s n
+  pub rounded_by : (c : Case) → holds c s n ≡ true → rounded s n ≡ result_of c s n
   rounded_by Below h = let b = both _ _ h in as_positive b.0 (whole b.1)
   rounded_by Half h = let b = both _ _ h in as_positive b.0 (one_more_lem (from-half b.1))
   rounded_by Above h = let b = both _ _ h in as_positive b.0 (one_more_lem (from-above b.1))
@@ -118,5 +118,5 @@ module _ (s : ℤ) (n : ℕ) where
   rounded_by NegativeAbove h = let b = both _ _ h in as_negative b.0 (one_more_lem (from-above b.1))
 
   -- so a case's result is no larger than the sum
-  pub result_le : 0 < n → (c : Case) → holds c s n ≡ true → nat_abs (result c s n) ≤ nat_abs s
+  pub result_le : 0 < n → (c : Case) → holds c s n ≡ true → nat_abs (result_of c s n) ≤ nat_abs s
   result_le p c h = rw (rounded_by c h) at (rounded_le s n p)

@@ -22,13 +22,13 @@ holds NegativeHalf s n = lt_z s (pos 0) && eqb (2 * remainder s n) n
 holds NegativeAbove s n = lt_z s (pos 0) && ltb n (2 * remainder s n)
 
 -- "the whole quotient without sign, one more from half on, then the sign"
-abbrev pub result : Case → ℤ → ℕ → ℤ
-result Below s n = pos (quotient s n)
-result Half s n = pos (quotient s n + 1)
-result Above s n = pos (quotient s n + 1)
-result NegativeBelow s n = neg_ℤ (pos (quotient s n))
-result NegativeHalf s n = neg_ℤ (pos (quotient s n + 1))
-result NegativeAbove s n = neg_ℤ (pos (quotient s n + 1))
+abbrev pub result_of : Case → ℤ → ℕ → ℤ
+result_of Below s n = pos (quotient s n)
+result_of Half s n = pos (quotient s n + 1)
+result_of Above s n = pos (quotient s n + 1)
+result_of NegativeBelow s n = neg_ℤ (pos (quotient s n))
+result_of NegativeHalf s n = neg_ℤ (pos (quotient s n + 1))
+result_of NegativeAbove s n = neg_ℤ (pos (quotient s n + 1))
 
 -- there is a case that holds, and no other does
 pub record OneCase (s : ℤ) (n : ℕ) : Type 0 where
@@ -45,7 +45,7 @@ pub record RoundingByCases : Type 0 where
   -- number from 1 on and every sum
   pub one : (s : ℤ) (n : ℕ) → 0 < n → OneCase s n
   -- "Each case is shown to give its own result"
-  pub each : (s : ℤ) (n : ℕ) → 0 < n → (c : Case) → holds c s n ≡ true → rounded s n ≡ result c s n
+  pub each : (s : ℤ) (n : ℕ) → 0 < n → (c : Case) → holds c s n ≡ true → rounded s n ≡ result_of c s n
   -- the numbers of docs/ROUNDING.md; negsuc k is -1 - k
   pub below : Worked Below (pos 1000) 3 333 1 (pos 333)
   pub half : Worked Half (pos 2007) 2 1003 1 (pos 1004)

@@ -1,7 +1,7 @@
 // The rounded mean, by the six cases that service staff tick: document 02, T-03. The page for them is docs/ROUNDING.md.
 ghost use Rattle.std.specs.Prelude.{◌≡◌, true, ◌≤◌, ◌<◌, ◌^◌, pos, neg_ℤ};
 ghost use Rattle.weight.specs.Mean.{mean_of};
-ghost use Rattle.weight.specs.Cases.{holds, result, RoundingByCases};
+ghost use Rattle.weight.specs.Cases.{holds, result_of, RoundingByCases};
 
 use crate::{Figure, size};
 
@@ -62,7 +62,7 @@ impl Case {
     // The whole quotient without sign, one more from half on, then the sign.
     fn result(self, sum: i64, n: u64) -> i64
         requires { (0 < n) × (holds self sum n ≡ true) }
-        ensures { result ≡ result self sum n }
+        ensures { result ≡ result_of self sum n }
     {
         let quotient = size(sum) / n;
         match self {

@@ -2,10 +2,9 @@
 use mathlib.Core.Path.{refl}
 use Rattle.weight.specs.Mean.{nearest, rounded}
 use Rattle.weight.proofs.Cases.{one-case, rounded_by}
-use Rattle.weight.proofs.rounding.rounding_by_cases.Statement.{statement}
-use Rattle.weight.proofs.rounding.rounding_by_cases.Tie as tie
+use Rattle.weight.proofs.rounding.rounding_by_cases.Goals as goal
 
-returns : tie.Need-returns
+pub returns : goal.returns
 unfolding nearest rounded
 returns c =
     record {
@@ -18,6 +17,3 @@ returns c =
       negative-half = (refl, refl, refl, refl);
       negative-above = (refl, refl, refl, refl);
     }
-
-pub rounding-by-cases-spec : {M : Type 1} → statement M
-rounding-by-cases-spec = tie.close (tie.spec returns)
