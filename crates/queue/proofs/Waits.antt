@@ -1,17 +1,17 @@
 -- What a queue holds: the waits of a list laid, after a tick, after one joined; and what the number n tells of them where
 -- the queue has its eight places. Assumes nothing.
-use mathlib.Core.Path.{◌≡◌, refl, sym, ap, ◌∙◌}
-use mathlib.Core.Bool.{Bool, true, false, not}
+use mathlib.Core.Path.{◌≡◌, refl, sym, ◌∙◌}
+use mathlib.Core.Bool.{true, false, not}
 use mathlib.Core.List.{List, [], ◌∷◌, ◌++◌, map}
-use Prim.Native.Nat.{ℕ, suc, ◌+◌, ◌≤◌, min}
+use Prim.Native.Nat.{ℕ, ◌+◌, min}
 use native.Mathlib.Omega.{arith}
 use lib.Dec.{eqb, ltb, leb}
-use lib.ListN.{length, take, replicate, length-append, length-take, length-map}
+use lib.ListN.{length, take, length-append, length-take, length-map}
 use lib.Seq.{take-append_seam}
 use borrow.Author.Tests.{eq-eqb, ne_eqb, eqb-true, eqb-false, le-ltb, le-leb, lt-leb, leb-true, leb-false}
-use Rattle.laws.specs.Choice.{if◌then◌else◌, bit}
+use Rattle.laws.specs.Choice.{bit}
 use Rattle.laws.proofs.Tests.{by_cases}
-use Rattle.lists.specs.Each.{any_of, without}
+use Rattle.lists.specs.Each.{without}
 use Rattle.lists.proofs.Each.{one_less, take_counted}
 use Rattle.time.specs.Time.{is_time, fallen, ended}
 use Rattle.queue.specs.Queue.{places, waits_of, laid, waiting, is_empty, is_full, queue_ticked, one_ends, joined}
