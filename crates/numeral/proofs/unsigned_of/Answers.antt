@@ -9,8 +9,7 @@ use lib.Signed.{lt_z, non_neg}
 use mir.Facts.{to_z-of_z, Fits-nat_abs}
 use Rattle.laws.proofs.Tests.{never}
 use Rattle.numeral.specs.Number.{limit, unsigned_of}
-use Rattle.numeral.proofs.unsigned_of.Statement.{statement}
-use Rattle.numeral.proofs.unsigned_of.Tie as tie
+use Rattle.numeral.proofs.unsigned_of.Goals as goal
 
 negative : (z : ℤ) → lt_z z (pos 0) ≡ true → limit ≡ unsigned_of z
 negative (pos n) h = never (sym (le-ltb n 0 zero-le) ∙ h)
@@ -24,17 +23,14 @@ same : (z : ℤ) → lt_z z (pos 0) ≡ false → nat_abs z ≡ unsigned_of z
 same (pos n) h = refl
 same (negsuc n) h = never (sym h)
 
-returns : tie.Need-returns
-returns c = negative c.before.args.value (rw (to_z-of_z c.before.ranges.value) at c.if1.true)
+pub returns-then-value-lt0 : goal.returns-then-value-lt0
+returns-then-value-lt0 c = negative c.args.value (rw (to_z-of_z c.ranges.value) at c.if-value-lt0.true)
 
-left : (c : tie.Else1) → lt_z c.before.args.value (pos 0) ≡ false
-left c = rw (to_z-of_z c.before.ranges.value) at c.if1.false
+left : (c : goal.Else-value-lt0) → lt_z c.args.value (pos 0) ≡ false
+left c = rw (to_z-of_z c.ranges.value) at c.if-value-lt0.false
 
-cast-result : tie.Need-overflow-cast-result
-cast-result c = let f = c.before.ranges.value in rw (to_z-of_z f) (nonneg c.before.args.value (left c), Fits-nat_abs tt f)
+pub overflow_cast-result : goal.overflow_cast-result
+overflow_cast-result c = let f = c.ranges.value in rw (to_z-of_z f) (nonneg c.args.value (left c), Fits-nat_abs tt f)
 
-returns-2 : tie.Need-returns-2
-returns-2 c = rw (to_z-of_z c.before.ranges.value) (same c.before.args.value (left c))
-
-pub unsigned-of-spec : {M : Type 1} → statement M
-unsigned-of-spec = tie.close (tie.spec returns cast-result returns-2)
+pub returns : goal.returns
+returns c = rw (to_z-of_z c.ranges.value) (same c.args.value (left c))

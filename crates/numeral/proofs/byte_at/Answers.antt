@@ -1,0 +1,10 @@
+-- `byte_at` compares the head of the rest. Assumes nothing.
+use Rattle.numeral.proofs.Heads.{byte-end}
+use Rattle.lists.proofs.Past.{cut}
+use Rattle.numeral.proofs.byte_at.Goals as goal
+
+pub returns-then-line-at : goal.returns-then-line-at
+returns-then-line-at c = let a = c.args in byte-end a.c a.line.now a.at c.if-line-at.true
+
+pub returns : goal.returns
+returns c = let a = c.args in rw (cut a.line.now a.at c.if-line-at.false)

@@ -1,0 +1,10 @@
+-- `digit_at` compares the head of the rest. Assumes nothing.
+use Rattle.numeral.proofs.Heads.{digit-end}
+use Rattle.lists.proofs.Past.{cut}
+use Rattle.numeral.proofs.digit_at.Goals as goal
+
+pub returns-then-line-at : goal.returns-then-line-at
+returns-then-line-at c = let a = c.args in digit-end a.low a.line.now a.at c.if-line-at.true
+
+pub returns : goal.returns
+returns c = let a = c.args in rw (cut a.line.now a.at c.if-line-at.false)
