@@ -1,6 +1,6 @@
 -- `fit`: of the waits, those left decide. Assumes nothing.
 use borrow.Author.Rules.{rules}
-use borrow.Author.Tests.{le-leb, lt-leb, not-true, not-false}
+use borrow.Author.Tests.{le-leb, lt-leb}
 use mathlib.Core.Path.{◌≡◌, refl, sym, ap, ◌∙◌}
 use native.Mathlib.Omega.{arith}
 use Rattle.laws.specs.Choice.{within}
@@ -27,7 +27,7 @@ returns-then-not-shortest-wait c =
     let l = c.loop-i in
     let a = c.args in
     let q = a.self in
-    let next = all-next (within a.shortest longest) q.n q.waits l.i 0 (omega arith) (omega arith) (ap (within a.shortest longest) (sym c.wide-wait.ensures) ∙ not-true _ c.if-not-shortest-wait.true-raw) in
+    let next = all-next (within a.shortest longest) q.n q.waits l.i 0 (omega arith) (omega arith) (ap (within a.shortest longest) (sym c.wide-wait.ensures) ∙ c.if-not-shortest-wait.true) in
     simp (le-leb q.n places (omega arith), l.invariant.3 ∙ next)
 
 pub loop-i-preserved : goal.loop-i-preserved
@@ -35,7 +35,7 @@ loop-i-preserved c =
     let l = c.loop-i in
     let a = c.args in
     let q = a.self in
-    let next = all-next (within a.shortest longest) q.n q.waits l.i 0 (omega arith) (omega arith) (ap (within a.shortest longest) (sym c.wide-wait.ensures) ∙ not-false _ c.if-not-shortest-wait.false-raw) in
+    let next = all-next (within a.shortest longest) q.n q.waits l.i 0 (omega arith) (omega arith) (ap (within a.shortest longest) (sym c.wide-wait.ensures) ∙ c.if-not-shortest-wait.false) in
     (l.invariant.0, l.invariant.1, omega arith, l.invariant.3 ∙ next)
 
 pub returns : goal.returns

@@ -1,6 +1,6 @@
 -- `joined`: the waits before place i are copied, then the new one is put behind them. Assumes nothing.
 use borrow.Author.Rules.{rules}
-use borrow.Author.Tests.{leb-true, le-leb, lt-leb, not-true, not-false}
+use borrow.Author.Tests.{leb-true, le-leb, lt-leb}
 use mathlib.Core.Bool.{true, false, or-true}
 use mathlib.Core.List.{[], ◌∷◌, ◌++◌}
 use mathlib.Core.Path.{◌≡◌, refl, sym, ◌∙◌}
@@ -25,7 +25,7 @@ returns-then-self-ge-PLACES c =
 pub returns-then-not-is_time : goal.returns-then-not-is_time
 unfolding joined
 returns-then-not-is_time c =
-    let no : is_time c.args.ts ≡ false = sym c.is_time.ensures ∙ not-true _ c.if-not-is_time.true-raw in
+    let no : is_time c.args.ts ≡ false = sym c.is_time.ensures ∙ c.if-not-is_time.true in
     rw (no, or-true) refl
 
 pub loop-i-init : goal.loop-i-init
@@ -40,7 +40,7 @@ loop-i-preserved c =
 pub overflow_cast-all : goal.overflow_cast-all
 overflow_cast-all c =
     let a = c.args in
-    let time : is_time a.ts ≡ true = sym c.is_time.ensures ∙ not-false _ c.if-not-is_time.false-raw in
+    let time : is_time a.ts ≡ true = sym c.is_time.ensures ∙ c.if-not-is_time.false in
     record { fits = omega (arith, leb-true a.ts longest time) }
 
 pub returns : goal.returns
@@ -49,7 +49,7 @@ returns c =
     let l = c.loop-i in
     let a = c.args in
     let q = a.self in
-    let time : is_time a.ts ≡ true = sym c.is_time.ensures ∙ not-false _ c.if-not-is_time.false-raw in
+    let time : is_time a.ts ≡ true = sym c.is_time.ensures ∙ c.if-not-is_time.false in
     let n : q.n ≡ length (take q.n q.waits) = sym (length-take-le q.n q.waits (omega arith)) in
     let more : q.n + 1 ≡ length (take q.n q.waits ++ a.ts ∷ []) = omega (arith, length-append (take q.n q.waits) (a.ts ∷ [])) in
     let e : is_full q ≡ false = sym (full_is q (search rules)) ∙ lt-leb places q.n (omega arith) in
