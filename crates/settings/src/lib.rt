@@ -72,6 +72,7 @@ impl Settings {
             & is_load(self.tare)
     }
 
+    #[tactic(auto, unfolding(crate::specs::Settings::limits_ordered))]
     pub fn ordered(self) -> bool
         ensures { result ≡ limits_ordered self }
     {
@@ -88,6 +89,7 @@ impl Settings {
     }
 
     // 1 LoLo, 2 Lo, 3 OK, 4 Hi, 5 HiHi
+    #[tactic(auto, unfolding(crate::specs::Grade::grade_of))]
     pub fn grade(self, net: i64) -> u64
         ensures { result ≡ grade_of self net }
     {
