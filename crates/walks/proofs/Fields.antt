@@ -12,7 +12,7 @@ use mathlib.Core.Option.{Option, none, some}
 use Prim.Native.Nat.{ℕ, suc, ◌+◌}
 use lib.Dec.{T as Holds}
 use seplogic.Ra.Ura.{Ura}
-use mir.Syntax.{Sym, Ty, Tys, Tyss, ty_int, ty_bool, ty_float, ty_ptr, ty_ref, ty_array, ty_unit, ty_struct, ty_enum, ty_named, tcons, variant, field, w8}
+use mir.Syntax.{Sym, Ty, Tys, Tyss, ty_int, ty_bool, ty_float, ty_ptr, ty_ref, ty_array, ty_unit, ty_struct, ty_enum, ty_param, ty_const, ty_array_p, ty_named, tcons, variant, field, w8}
 use mir.Val.{Vals}
 use mir.Fields.{get_v}
 use base.Fml.{Share, fat}
@@ -52,7 +52,10 @@ has (ty_array τ n) k j = false
 has ty_unit k j = false
 has (ty_struct ν τs) k j = false
 has (ty_enum ν τss) k j = in_fields (variant_at τss k) j
-has (ty_named ν) k j = false
+has (ty_param p) k j = false
+has (ty_const p) k j = false
+has (ty_array_p τ p) k j = false
+has (ty_named ν τs) k j = false
 
 by_field : (ν : Sym) (τss : Tyss) (k j : ℕ) (τs : Tys) → variant_at τss k ≡ some τs → (f : Option (Ty × ℕ)) → field_at 1 τs j ≡ f → Holds (there f) → Field (ty_enum ν τss) k j
 by_field ν τss k j τs e none d h = absurd h
@@ -72,7 +75,10 @@ field_of (ty_array τ n) k j h = absurd h
 field_of ty_unit k j h = absurd h
 field_of (ty_struct ν τs) k j h = absurd h
 field_of (ty_enum ν τss) k j h = by_variant ν τss k j (variant_at τss k) refl h
-field_of (ty_named ν) k j h = absurd h
+field_of (ty_param p) k j h = absurd h
+field_of (ty_const p) k j h = absurd h
+field_of (ty_array_p τ p) k j h = absurd h
+field_of (ty_named ν τs) k j h = absurd h
 
 to_variant : {T : Ty} {k j : ℕ} (f : Field T k j) → variant_of T k ≡ some (ty_struct f.name (tcons (ty_int w8) f.fields))
 to_variant {T} {k} f = ap (λ (τ : Ty). variant_of τ k) f.enum_is ∙ ap (with_tag f.name) f.variant_is

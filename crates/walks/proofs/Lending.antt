@@ -12,12 +12,12 @@
 -- Assumes `Logic`.
 use mathlib.Core.Path.{◌≡◌, refl, ◌∙◌, ap, subst}
 use Prim.Native.Nat.{ℕ, zero, suc}
-use mathlib.Core.List.{List, [], ◌∷◌}
+use mathlib.Core.List.{List, [], ◌∷◌, not-mem-nil}
 use mathlib.Core.Bool.{Bool, true, false}
 use mathlib.Core.Logic.{◌⊎◌, inl, inr}
 use lib.ListN.{length}
 use seplogic.Ra.Ura.{Ura}
-use seplogic.Ra.TreeShare.{full_share}
+use base.Fraction.{full_share}
 use mir.Syntax.{Lifetime, Ty, ty_bool, Local, local, Place}
 use mir.Val.{Val}
 use base.Logic.{ent, sep}
@@ -28,7 +28,9 @@ use types.Kit.{Item, Goal, Post, settles, regoal, Soaks, Seq, Step, step, cut, m
 use types.Tokens.{lft_new, lft_end}
 use denote.RattleType.{RattleType}
 use denote.Laws.{Is, Tells}
-use denote.Ref.{MutBor}
+use denote.Memory.{shared_of}
+use denote.Shares.{SharesAsFrom}
+use denote.Ref.{Bor, MutBor}
 use denote.Slice.{slice_val, MutSlice, ShrSlice, Room, finally, res-finally, coded_holeys, heres}
 use denote.Steps.{only}
 use Rattle.walks.proofs.Loans.{LentAgain, LentShared, lends_again, comes_back, lends_shared, shared_back}
@@ -52,6 +54,9 @@ ty_of (local τ h ∷ ls) (suc k) = ty_of ls k
 -- a slice reference
 abbrev pub ref : {X : Type 0} → ℕ → ℕ → GName → List X → MutBor (List X)
 ref b o γ ys = record { ref_ptr = (b, o); ghost_name = γ; now = ys }
+
+abbrev pub shr : {X : Type 0} → ℕ → ℕ → List X → Bor (List X)
+shr b o ys = record { ref_ptr = (b, o); now = ys }
 
 pub let_go : {M : Type 1} {𝓤 : Ura M} (𝓛 : Logic 𝓤) (R : RattleType) (ℓ : Lifetime) (κ : Lft) (x : MutBor (List R.Denot)) (vs : List Val) → ent 𝓤 (sem 𝓛 ((MutSlice ℓ κ R).own_val x vs)) (sem 𝓛 (finally R x.ghost_name x.now))
 let_go 𝓛 R ℓ κ x vs =
@@ -93,12 +98,13 @@ module _ {M : Type 1} {𝓤 : Ura M} {𝓛 : Logic 𝓤} {K : Type 0} {Γ : List
     back-mut ν δ zs room m e = step (λ s. move t (1 ∷ []) $ lft_end t z $ move t (0 ∷ 2 ∷ 1 ∷ []) $
         use3 𝓛 (later (‵ ((MutSlice ℓ κ R).own_val (ref b o γ zs) (slice_val (b, o) n ∷ [])) ⊛ ‵ (flft κ q))) (comes_back R κ (ν ∷ []) q γ b o n 𝓛 ℓ ℓ' ys δ zs room m e) $ await t z $ split t $ s)
 
-    pub lend-shr : ((ν : ℕ) (δ : GName) → Seq K 𝓛 (‵ ((ShrSlice ℓ' (ν ∷ []) R).own_val (ref b o δ ys) (slice_val (b, o) n ∷ [])) ∷ ‵ (flft (ν ∷ []) full_share) ∷ ‵ (LentShared R κ (ν ∷ []) q γ b o n ys) ∷ Γ) G)
+    -- where no value of T holds a `&mut`
+    pub lend-shr : SharesAsFrom 𝓛 full_share R (shared_of R) [] → ((ν : ℕ) → Seq K 𝓛 (‵ ((ShrSlice ℓ' (ν ∷ []) R).own_val (shr b o ys) (slice_val (b, o) n ∷ [])) ∷ ‵ (flft (ν ∷ []) full_share) ∷ ‵ (LentShared R κ (ν ∷ []) q γ b o n ys) ∷ Γ) G)
         → Seq K 𝓛 (‵ ((MutSlice ℓ κ R).own_val (ref b o γ ys) (slice_val (b, o) n ∷ [])) ∷ ‵ (flft κ q) ∷ Γ) G
-    lend-shr k =
-        lft_new t z (λ ν. move t (1 ∷ 2 ∷ []) $
-        use2 𝓛 (later (some (λ (δ : GName). ‵ ((ShrSlice ℓ' (ν ∷ []) R).own_val (ref b o δ ys) (slice_val (b, o) n ∷ [])) ⊛ ‵ (LentShared R κ (ν ∷ []) q γ b o n ys)))) (lends_shared R κ (ν ∷ []) q γ b o n 𝓛 ℓ ℓ' ys) $ await t z $ pick t (λ δ. split t $
-        move t (0 ∷ 2 ∷ 1 ∷ []) $ k ν δ))
+    lend-shr shared k =
+        lft_new t z (λ ν. move t (1 ∷ 2 ∷ 0 ∷ []) $
+        use3 𝓛 (later (‵ ((ShrSlice ℓ' (ν ∷ []) R).own_val (shr b o ys) (slice_val (b, o) n ∷ [])) ⊛ (‵ (LentShared R κ (ν ∷ []) q γ b o n ys) ⊛ ‵ (flft (ν ∷ []) full_share)))) (lends_shared R κ (ν ∷ []) q γ b o n 𝓛 ℓ ℓ' ys [] shared ((ν ∷ [], full_share) ∷ []) (λ a m. absurd (not-mem-nil m)) (λ a m. m)) $ await t z $ split t $
+        move t (1 ∷ []) $ split t $ move t (2 ∷ 1 ∷ []) $ k ν)
 
     pub back_shr : (ν : ℕ) → Room R n → length ys ≡ n
         → Step K 𝓛 (‵ ((MutSlice ℓ κ R).own_val (ref b o γ ys) (slice_val (b, o) n ∷ [])) ∷ ‵ (flft κ q) ∷ Γ) G (‵ (flft (ν ∷ []) full_share) ∷ ‵ (LentShared R κ (ν ∷ []) q γ b o n ys) ∷ Γ) G

@@ -8,7 +8,7 @@ use Prim.Native.Nat.{ℕ}
 use mathlib.Core.List.{List, [], ◌∷◌, map}
 use lib.ListN.{length, length-map}
 use seplogic.Ra.Ura.{Ura}
-use seplogic.Ra.TreeShare.{full_share}
+use base.Fraction.{full_share}
 use mir.Syntax.{Lifetime, Ty, ty_array}
 use mir.Val.{Val}
 use base.Logic.{ent, sep, ex, guard}
@@ -31,13 +31,13 @@ use denote.Steps.{owned, facts}
 use denote.Struct.Recorded.{Recorded}
 
 module _ (S : RattleType) (D : Type 0) (to : D → S.Denot) (one : (x y : D) → to x ≡ to y → x ≡ y) where
-  each_in : (xs : List D) (us : List Val) → shadow (each S.Denot S.own (map to xs) us) → shadow (each D (Recorded S D to one).own xs us)
+  each_in : (xs : List D) (us : List Val) → shadow (each S.Denot S.own_val (map to xs) us) → shadow (each D (Recorded S D to one).own_val xs us)
   each_in [] [] h = tt
   each_in [] (u ∷ us) h = h
   each_in (x ∷ xs) [] h = h
   each_in (x ∷ xs) (u ∷ us) h = (h.0, each_in xs us h.1)
 
-  each-out : (xs : List D) (us : List Val) → shadow (each D (Recorded S D to one).own xs us) → shadow (each S.Denot S.own (map to xs) us)
+  each-out : (xs : List D) (us : List Val) → shadow (each D (Recorded S D to one).own_val xs us) → shadow (each S.Denot S.own_val (map to xs) us)
   each-out [] [] h = tt
   each-out [] (u ∷ us) h = h
   each-out (x ∷ xs) [] h = h
