@@ -15,6 +15,7 @@ pub struct Last {
 }
 
 impl Last {
+    #[tactic(auto, unfolding(crate::specs::Sample::last_fit))]
     pub fn fit(self) -> bool
         ensures { result ≡ last_fit self }
     {

@@ -76,6 +76,7 @@ pub enum Event {
 }
 
 impl SorterSetup {
+    #[tactic(auto, unfolding(crate::specs::Setup::sorter_ranged))]
     pub fn ranged(self) -> bool
         ensures { result ≡ sorter_ranged self }
     {
@@ -159,6 +160,7 @@ impl Setup {
             & (two.ranged() & (three.ranged() & (four.ranged() & (five.ranged() & six.ranged()))))
     }
 
+    #[tactic(auto, unfolding(crate::specs::Setup::setup_ranged))]
     pub fn ranged(self) -> bool
         ensures { result ≡ setup_ranged self }
     {
@@ -174,6 +176,7 @@ impl Setup {
     }
 
     // Mode 2 needs edge 2.
+    #[tactic(auto, unfolding(crate::specs::Setup::edge_agrees))]
     fn edge_agrees(self) -> bool
         ensures { result ≡ edge_agrees self }
     {
@@ -181,6 +184,7 @@ impl Setup {
     }
 
     // Mode 4 needs sort masks of 0.
+    #[tactic(auto, unfolding(crate::specs::Setup::masks_agree))]
     fn masks_agree(self) -> bool
         ensures { result ≡ masks_agree self }
     {
@@ -195,6 +199,7 @@ impl Setup {
     }
 
     // No field contradicts another.
+    #[tactic(auto, unfolding(crate::specs::Setup::setup_agrees))]
     pub fn agrees(self) -> bool
         ensures { result ≡ setup_agrees self }
     {
@@ -209,6 +214,7 @@ impl Setup {
 }
 
 impl Sample {
+    #[tactic(auto, unfolding(crate::specs::Sample::sample_ranged))]
     pub fn ranged(self) -> bool
         ensures { result ≡ sample_ranged self }
     {
@@ -267,6 +273,7 @@ impl Event {
     }
 
     // No field is out of range.
+    #[tactic(auto, unfolding(crate::specs::Event::event_ranged))]
     pub fn ranged(self) -> bool
         ensures { result ≡ event_ranged self }
     {
@@ -281,6 +288,7 @@ impl Event {
     }
 
     // No field contradicts another.
+    #[tactic(auto, unfolding(crate::specs::Event::event_agrees))]
     pub fn agrees(self) -> bool
         ensures { result ≡ event_agrees self }
     {
