@@ -27,6 +27,7 @@ pub const CRASH: u64 = 6;
 
 pub const NINTH_SIGNAL: u64 = 7;
 
+#[tactic(auto, unfolding(crate::specs::Status::error_known))]
 pub fn error_known(error: u64) -> bool
     ensures { result ≡ error_known error }
 {
@@ -40,6 +41,7 @@ pub fn error_known(error: u64) -> bool
 }
 
 // The error of a line that this verdict, 1 (LoLo) to 8 (crash), stops.
+#[tactic(auto, unfolding(crate::specs::Status::error_for))]
 pub fn error_for(verdict: u64) -> u64
     ensures { result ≡ error_for verdict }
 {
@@ -56,6 +58,7 @@ pub fn error_for(verdict: u64) -> u64
 }
 
 // With a status and a mode, an item in hand or not.
+#[tactic(auto, unfolding(crate::specs::Status::conveyor_runs))]
 pub fn conveyor_runs(status: u64, mode: u64, hand: bool) -> bool
     ensures { result ≡ conveyor_runs status mode hand }
 {
