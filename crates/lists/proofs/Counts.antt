@@ -1,13 +1,12 @@
 -- Lists of counts: one element more, a count is at most the sum, and a list written out. Assumes nothing.
-use mathlib.Core.Path.{◌≡◌, refl, sym, ap, ◌∙◌}
-use mathlib.Core.Bool.{true, false}
-use mathlib.Core.List.{List, [], ◌∷◌, ◌++◌}
+use mathlib.Core.Path.{◌≡◌, refl, ap, ◌∙◌}
+use mathlib.Core.List.{List, [], ◌∷◌}
 use Prim.Native.Nat.{ℕ, zero, suc, ◌+◌, ◌≤◌, ◌<◌}
 use native.Mathlib.Omega.{arith}
 use lib.Dec.{eqb}
-use lib.ListN.{length, get_or, set, drop}
+use lib.ListN.{length, get_or, drop}
 use borrow.Author.Tests.{eq-eqb, ne_eqb, eqb-true, eqb-false}
-use Rattle.laws.specs.Choice.{if◌then◌else◌, bit}
+use Rattle.laws.specs.Choice.{bit}
 use Rattle.laws.proofs.Tests.{by_cases}
 use Rattle.lists.specs.Counts.{add_up, one_more, tab}
 use Rattle.lists.proofs.Each.{rest}

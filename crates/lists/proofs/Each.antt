@@ -11,7 +11,7 @@ use lib.Dec.{ltb}
 use lib.ListN.{length, get_or, take, drop, drop_of_length-le, length-take}
 use lib.Seq.{drop-cons, get_or-take, length-take-le}
 use borrow.Author.Tests.{lt-ltb}
-use Rattle.laws.specs.Choice.{if◌then◌else◌, bit}
+use Rattle.laws.specs.Choice.{bit}
 use Rattle.laws.proofs.Tests.{both, and_intro, if_ind, by_cases, never}
 use Rattle.lists.specs.Each.{any_of, all_of, counted, without, without_first, folded}
 
