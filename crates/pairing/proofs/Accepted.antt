@@ -62,10 +62,10 @@ module _ (vs ts : List ℕ) (a b room : ℕ) (before after : List ℕ) (k : ℕ)
   good = sweep-good f.sweep h.verdicts h.signals
 
   pub few-verdicts : k ≤ length vs
-  few-verdicts = omega (arith, f.counted, good.verdicts-add)
+  few-verdicts = omega (arith, f.counted, good.verdicts_add)
 
   pub few-signals : k ≤ length ts
-  few-signals = omega (arith, f.counted, good.signals-add)
+  few-signals = omega (arith, f.counted, good.signals_add)
 
   pub given : Given vs ts a b before after (record { pairs = k; missing = length vs - k; extra = length ts - k })
   given =
@@ -74,8 +74,8 @@ module _ (vs ts : List ℕ) (a b room : ℕ) (before after : List ℕ) (k : ℕ)
         largest = record { pairing = good.pairing; largest = sweep-largest f.sweep h.verdicts h.signals; ordered = good.ordered };
         counted = record {
           paired = f.counted;
-          missing = omega (arith, f.counted, good.verdicts-add);
-          extra = omega (arith, f.counted, good.signals-add);
+          missing = omega (arith, f.counted, good.verdicts_add);
+          extra = omega (arith, f.counted, good.signals_add);
           verdicts_add = omega (arith, few-verdicts);
           signals_add = omega (arith, few-signals);
         };

@@ -1,6 +1,6 @@
 -- The entries of a list: what holds of each, strictly rising lists as loops test them, and what is left over. Assumes nothing.
 use mathlib.Core.Path.{◌≡◌, refl, sym, ap, subst, ◌∙◌}
-use mathlib.Core.Bool.{true, false, not}
+use mathlib.Core.Bool.{true, false}
 use mathlib.Core.List.{List, [], ◌∷◌, map}
 use mathlib.Core.Logic.{◌≢◌}
 use Prim.Native.Nat.{ℕ, zero, suc, ◌+◌, ◌-◌, ◌≤◌, ◌<◌}
@@ -31,7 +31,7 @@ every-both none f = none
 every-both (more p e) f = more (p, first f) (every-both e (rest f))
 
 -- of each f x, where it holds so of each x
-pub every_of : {A : Type 0} {P : ℕ → Type 0} {l : List A} (f : A → ℕ) → Every (λ x. P (f x)) l → Every P (map f l)
+pub every_of : {A : Type 0} {P : ℕ → Type 0} (f : A → ℕ) {l : List A} → Every (λ x. P (f x)) l → Every P (map f l)
 every_of f none = none
 every_of f (more p e) = more p (every_of f e)
 

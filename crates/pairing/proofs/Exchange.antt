@@ -52,11 +52,11 @@ AtMost vs ts a b n = (qs : List Pair) → Pairing vs ts a b qs → length qs ≤
 
 pub none-without-verdicts : (ts : List ℕ) (a b : ℕ) → AtMost [] ts a b 0
 none-without-verdicts ts a b [] p = omega arith
-none-without-verdicts ts a b (q ∷ qs) p = stands-none q.verdict (first p.each).verdict-in
+none-without-verdicts ts a b (q ∷ qs) p = stands-none q.verdict (first p.each).verdict_in
 
 pub none-without-signals : (vs : List ℕ) (a b : ℕ) → AtMost vs [] a b 0
 none-without-signals vs a b [] p = omega arith
-none-without-signals vs a b (q ∷ qs) p = stands-none q.signal (first p.each).signal-in
+none-without-signals vs a b (q ∷ qs) p = stands-none q.signal (first p.each).signal_in
 
 module _ (vs ts : List ℕ) (a b n : ℕ) where
   -- a signal that is too early for every verdict
@@ -65,10 +65,10 @@ module _ (vs ts : List ℕ) (a b n : ℕ) where
     where
       fits : (q : Pair) → Fits vs (t ∷ ts) a b q → Fits vs ts a b q
       fits q f =
-          let l = every_in q.verdict e f.verdict-in in
+          let l = every_in q.verdict e f.verdict_in in
           record {
-            verdict_in = f.verdict-in;
-            signal_in = stands-behind q.signal t ts f.signal-in (λ s. omega (arith, f.from));
+            verdict_in = f.verdict_in;
+            signal_in = stands-behind q.signal t ts f.signal_in (λ s. omega (arith, f.from));
             from = f.from;
             upto = f.upto;
           }
@@ -79,10 +79,10 @@ module _ (vs ts : List ℕ) (a b n : ℕ) where
     where
       fits : (q : Pair) → Fits (v ∷ vs) ts a b q → Fits vs ts a b q
       fits q f =
-          let l = every_in q.signal e f.signal-in in
+          let l = every_in q.signal e f.signal_in in
           record {
-            verdict_in = stands-behind q.verdict v vs f.verdict-in (λ s. omega (arith, f.upto));
-            signal_in = f.signal-in;
+            verdict_in = stands-behind q.verdict v vs f.verdict_in (λ s. omega (arith, f.upto));
+            signal_in = f.signal_in;
             from = f.from;
             upto = f.upto;
           }
@@ -93,8 +93,8 @@ module _ (v t : ℕ) (vs ts : List ℕ) (a b : ℕ) where
   fits-rest : (q : Pair) → Fits (v ∷ vs) (t ∷ ts) a b q → q.verdict ≢ v → q.signal ≢ t → Fits vs ts a b q
   fits-rest q f n m =
       record {
-        verdict_in = stands-behind q.verdict v vs f.verdict-in n;
-        signal_in = stands-behind q.signal t ts f.signal-in m;
+        verdict_in = stands-behind q.verdict v vs f.verdict_in n;
+        signal_in = stands-behind q.signal t ts f.signal_in m;
         from = f.from;
         upto = f.upto;
       }
@@ -140,8 +140,8 @@ module _ (v t : ℕ) (vs ts : List ℕ) (a b : ℕ) (from : v + a ≤ t) (upto :
         size = omega (arith, w.size);
       })
       (λ u.
-      let signal_in = stands-behind w.found.signal t ts w.good.signal-in (λ s. u.good.1.1 (s ∙ sym u.hit)) in
-      let verdict_in = stands-behind u.found.verdict v vs u.good.0.verdict-in (λ s. u.good.1.0 (w.hit ∙ sym s)) in
+      let signal_in = stands-behind w.found.signal t ts w.good.signal_in (λ s. u.good.1.1 (s ∙ sym u.hit)) in
+      let verdict_in = stands-behind u.found.verdict v vs u.good.0.verdict_in (λ s. u.good.1.0 (w.hit ∙ sym s)) in
       let lt = every_in w.found.signal later-t signal_in in
       let lv = every_in u.found.verdict later-v verdict_in in
       record {

@@ -1,5 +1,5 @@
 -- A sweep over two rising lists gives a pairing in order, no other has more pairs, and what it leaves over adds up. Assumes nothing.
-use mathlib.Core.Path.{◌≡◌, refl}
+use mathlib.Core.Path.{◌≡◌}
 use mathlib.Core.List.{List, [], ◌∷◌}
 use mathlib.Core.Logic.{◌≢◌}
 use Prim.Native.Nat.{ℕ, ◌+◌, ◌<◌}
@@ -23,13 +23,13 @@ sweep-largest {a} {b} (pair {v = v} {t = t} {vs = vs} {ts = ts} {ps = ps} h g d)
 
 -- a pair of shorter lists is one of longer lists
 longer : (v t : ℕ) (vs ts : List ℕ) (a b : ℕ) (q : Pair) → Fits vs ts a b q → Fits (v ∷ vs) (t ∷ ts) a b q
-longer v t vs ts a b q f = record { verdict_in = stands_later q.verdict v vs f.verdict-in; signal_in = stands_later q.signal t ts f.signal-in; from = f.from; upto = f.upto }
+longer v t vs ts a b q f = record { verdict_in = stands_later q.verdict v vs f.verdict_in; signal_in = stands_later q.signal t ts f.signal_in; from = f.from; upto = f.upto }
 
 longer-signals : (t : ℕ) (vs ts : List ℕ) (a b : ℕ) (q : Pair) → Fits vs ts a b q → Fits vs (t ∷ ts) a b q
-longer-signals t vs ts a b q f = record { verdict_in = f.verdict-in; signal_in = stands_later q.signal t ts f.signal-in; from = f.from; upto = f.upto }
+longer-signals t vs ts a b q f = record { verdict_in = f.verdict_in; signal_in = stands_later q.signal t ts f.signal_in; from = f.from; upto = f.upto }
 
 longer-verdicts : (v : ℕ) (vs ts : List ℕ) (a b : ℕ) (q : Pair) → Fits vs ts a b q → Fits (v ∷ vs) ts a b q
-longer-verdicts v vs ts a b q f = record { verdict_in = stands_later q.verdict v vs f.verdict-in; signal_in = f.signal-in; from = f.from; upto = f.upto }
+longer-verdicts v vs ts a b q f = record { verdict_in = stands_later q.verdict v vs f.verdict_in; signal_in = f.signal_in; from = f.from; upto = f.upto }
 
 pub record Good (a b : ℕ) (vs ts : List ℕ) (ps : List Pair) : Type 0 where
   pub pairing : Pairing vs ts a b ps
@@ -45,33 +45,33 @@ sweep-good (no_signal_lem {vs = vs}) s r =
     record { pairing = record { each = none; once = tt }; ordered = tt; verdicts_add = omega (arith, left-all vs); signals_add = omega (arith, left-none []) }
 sweep-good {a} {b} (early {v = v} {t = t} {vs = vs} {ts = ts} {ps = ps} h d) s r =
     let g = sweep-good d s r.1 in
-    let away = every_map {Q = λ q. t ≢ q.signal} (λ q f e. omega (arith, every_in q.signal r.0 f.signal-in)) g.pairing.each in
+    let away = every_map {Q = λ q. t ≢ q.signal} (λ q f e. omega (arith, every_in q.signal r.0 f.signal_in)) g.pairing.each in
     record {
       pairing = record { each = every_map (longer-signals t (v ∷ vs) ts a b) g.pairing.each; once = g.pairing.once };
       ordered = g.ordered;
-      verdicts_add = g.verdicts-add;
-      signals_add = omega (arith, g.signals-add, left-more t (signals_of ps) ts (every_of (λ (q : Pair). q.signal) away));
+      verdicts_add = g.verdicts_add;
+      signals_add = omega (arith, g.signals_add, left-more t (signals_of ps) ts (every_of (λ (q : Pair). q.signal) away));
     }
 sweep-good {a} {b} (late {v = v} {t = t} {vs = vs} {ts = ts} {ps = ps} h d) s r =
     let g = sweep-good d s.1 r in
-    let away = every_map {Q = λ q. v ≢ q.verdict} (λ q f e. omega (arith, every_in q.verdict s.0 f.verdict-in)) g.pairing.each in
+    let away = every_map {Q = λ q. v ≢ q.verdict} (λ q f e. omega (arith, every_in q.verdict s.0 f.verdict_in)) g.pairing.each in
     record {
       pairing = record { each = every_map (longer-verdicts v vs (t ∷ ts) a b) g.pairing.each; once = g.pairing.once };
       ordered = g.ordered;
-      verdicts_add = omega (arith, g.verdicts-add, left-more v (verdicts_of ps) vs (every_of (λ (q : Pair). q.verdict) away));
-      signals_add = g.signals-add;
+      verdicts_add = omega (arith, g.verdicts_add, left-more v (verdicts_of ps) vs (every_of (λ (q : Pair). q.verdict) away));
+      signals_add = g.signals_add;
     }
 sweep-good {a} {b} (pair {v = v} {t = t} {vs = vs} {ts = ts} {ps = ps} h k d) s r =
     let g = sweep-good d s.1 r.1 in
     let p : Pair = record { verdict = v; signal = t } in
-    let after = every_map {Q = λ q. v < q.verdict} (λ q f. every_in q.verdict s.0 f.verdict-in) g.pairing.each in
-    let behind = every_map {Q = λ q. t < q.signal} (λ q f. every_in q.signal r.0 f.signal-in) g.pairing.each in
+    let after = every_map {Q = λ q. v < q.verdict} (λ q f. every_in q.verdict s.0 f.verdict_in) g.pairing.each in
+    let behind = every_map {Q = λ q. t < q.signal} (λ q f. every_in q.signal r.0 f.signal_in) g.pairing.each in
     record {
       pairing = record {
         each = more (record { verdict_in = stands-first v vs; signal_in = stands-first t ts; from = h; upto = k }) (every_map (longer v t vs ts a b) g.pairing.each);
         once = (every_map (λ q l. (λ e. omega arith, λ e. omega arith)) (every-both after behind), g.pairing.once);
       };
       ordered = (after, g.ordered);
-      verdicts_add = omega (arith, g.verdicts-add, left_used v (verdicts_of ps) vs s.0);
-      signals_add = omega (arith, g.signals-add, left_used t (signals_of ps) ts r.0);
+      verdicts_add = omega (arith, g.verdicts_add, left_used v (verdicts_of ps) vs s.0);
+      signals_add = omega (arith, g.signals_add, left_used t (signals_of ps) ts r.0);
     }
