@@ -25,6 +25,7 @@ pub enum Weighed {
 }
 
 // An item as it is detected.
+#[tactic(auto, unfolding(crate::specs::Item::new_item))]
 pub fn new_item(setup: Setup) -> Item
     ensures { result ≡ new_item setup }
 {
@@ -46,6 +47,7 @@ impl Item {
     }
 
     // Ticks left from 1 to tw or ta, and a sum that so many ticks can have.
+    #[tactic(auto, unfolding(crate::specs::Item::item_fit))]
     pub fn fit(self, setup: Setup) -> bool
         ensures { result ≡ item_fit self setup }
     {
@@ -62,6 +64,7 @@ impl Item {
     }
 
     // One running tick: the wait falls, or the gross is added; on the last tick the mean is taken.
+    #[tactic(auto, unfolding(crate::specs::Item::ticked))]
     fn ticked(self, setup: Setup, gross: i64) -> Weighed
         requires { (item_fit self setup ≡ true) × (is_weight gross ≡ true) }
         ensures { result ≡ ticked self setup.ta gross }
@@ -89,6 +92,7 @@ impl Item {
     }
 
     // A tick of a fit item with a weight. Of any other nothing is left: to hand it on would cost a copy on every tick.
+    #[tactic(auto, unfolding(crate::specs::Item::weighed))]
     pub fn weighed(self, setup: Setup, gross: i64) -> Weighed
         ensures { result ≡ weighed self setup gross }
     {
