@@ -16,7 +16,6 @@ use Rattle.text.specs.Form.{Item, byte, word_items, Values, other, values, line_
 use Rattle.text.specs.Read.{held, at, Kind, command, commands, kinds, says, first_of}
 use Rattle.text.specs.Views.{reads, firsts}
 use Rattle.text.specs.declared.form.Fields.{Fields}
-use Rattle.text.specs.declared.Read.{Read}
 use Rattle.text.specs.declared.Read.TheVariants as read
 
 -- a kind of n values, as `read_form` answers

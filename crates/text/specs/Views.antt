@@ -1,7 +1,7 @@
 -- The reader's parts in the terms of `Form`.
-use Rattle.std.specs.Prelude.{ℕ, zero, suc, Bool, true, false, not, ◌&&◌, ◌||◌, List, [], ◌∷◌, map, drop, eqb, ℤ, pos}
+use Rattle.std.specs.Prelude.{ℕ, zero, suc, Bool, true, false, not, ◌&&◌, ◌||◌, List, [], ◌∷◌, map, drop, eqb, ℤ}
 use Prim.Native.Char.{code}
-use Rattle.laws.specs.Choice.{if◌then◌else◌, within}
+use Rattle.laws.specs.Choice.{if◌then◌else◌}
 use Rattle.decimal.specs.Bytes.{bytes, digit_byte}
 use Rattle.numeral.specs.Number.{Head, number_head, four_head}
 use Rattle.text.specs.Form.{Item, byte, number, four, Values, other, values, value_count}
