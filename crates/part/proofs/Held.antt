@@ -1,19 +1,18 @@
 -- The formula gives the class that holds a net. Net and target are taken so much higher that they are natural numbers. Assumes nothing.
 use mathlib.Core.Path.{◌≡◌, refl, sym, subst, ◌∙◌}
-use mathlib.Core.Bool.{Bool, true, false, ◌&&◌, ◌||◌}
-use Prim.Native.Nat.{ℕ, ◌+◌, ◌-◌, ◌*◌, ◌/◌, ◌%◌, ◌≤◌, ◌<◌, min}
+use mathlib.Core.Bool.{true, false, ◌||◌}
+use Prim.Native.Nat.{ℕ, ◌+◌, ◌*◌, ◌/◌, ◌%◌, ◌≤◌, ◌<◌, min}
 use native.Mathlib.Decide.{dec_le}
 use native.Mathlib.Nat.{div-add-mod', mod-lt, lt_of_not-le}
 use native.Mathlib.Omega.{arith}
-use lib.Dec.{eqb, leb, ltb}
-use lib.IntN.{ℤ, pos, nat_abs, ◌+ℤ◌, ◌-ℤ◌}
+use lib.Dec.{eqb, leb}
+use lib.IntN.{ℤ, pos, nat_abs, ◌-ℤ◌}
 use lib.Signed.{lt_z, le_z}
-use borrow.Author.Tests.{eq-eqb, ne_eqb, eqb-true, eqb-false, leb-true, le-leb, ltb-true, ltb-false}
-use Rattle.laws.specs.Choice.{if◌then◌else◌}
+use borrow.Author.Tests.{eq-eqb, ne_eqb, eqb-false, leb-true, le-leb, ltb-true, ltb-false}
 use Rattle.laws.proofs.Tests.{both, and_intro, if_ind, by_cases, never}
 use Rattle.laws.proofs.Signed.{abs_add, abs_sub}
 use Rattle.laws.proofs.Shift.{up, le_up, neg_up, up_add, up_sub, size-up}
-use Rattle.part.specs.Class.{last_class, lowest, highest, holds, above, class_of}
+use Rattle.part.specs.Class.{lowest, highest, holds, above, class_of}
 use Rattle.part.specs.Law.{ClassLaw}
 
 pub class-known : (net target : ℤ) → class_of net target ≤ 20

@@ -1,23 +1,22 @@
 -- What a fit part tells, and a part with one more verdict stays fit. Assumes nothing.
-use mathlib.Core.Path.{◌≡◌, refl, sym, ◌∙◌}
-use mathlib.Core.Bool.{Bool, true, false, ◌&&◌}
+use mathlib.Core.Path.{◌≡◌, refl, ◌∙◌}
+use mathlib.Core.Bool.{true, ◌&&◌}
 use mathlib.Core.List.{List}
-use Prim.Native.Nat.{ℕ, ◌+◌, ◌≤◌, ◌<◌}
+use Prim.Native.Nat.{ℕ, ◌≤◌}
 use native.Mathlib.Omega.{arith}
 use lib.Dec.{eqb}
 use lib.IntN.{ℤ}
 use lib.ListN.{length, get_or, length-set}
 use borrow.Author.Tests.{eqb-true, eq-eqb}
-use Rattle.laws.specs.Choice.{if◌then◌else◌}
 use Rattle.laws.proofs.Tests.{both, and_intro, if_ind, by_cases}
-use Rattle.lists.specs.Counts.{add_up, one_more}
+use Rattle.lists.specs.Counts.{add_up}
 use Rattle.lists.proofs.Counts.{one_of_sum, sum-one_more}
 use Rattle.weight.specs.Weight.{is_weight}
 use Rattle.tally.specs.Tally.{tally_fit, is_grade, takes, counted_with, weighed_with, added}
 use Rattle.tally.proofs.Facts.{fit_tells, takes_tells}
 use Rattle.tally.proofs.Added.{added-fit}
 use Rattle.part.specs.Class.{class_of}
-use Rattle.part.specs.Classes.{base, packed, counts_of}
+use Rattle.part.specs.Classes.{packed, counts_of}
 use Rattle.part.specs.Part.{Part, empty_part, part_fit, added_part, takes_in}
 use Rattle.part.proofs.Held.{class-known}
 use Rattle.part.proofs.Digits.{packed-counts}
