@@ -9,8 +9,7 @@ use Rattle.device.specs.declared.sorter.Sorter.{Sorter}
 use Rattle.event.specs.Setup.{sorter_count, sorter_setups}
 use Rattle.event.specs.declared.Setup.{Setup}
 use Rattle.sorters.specs.Sorters.{ticked_as, all_ticked}
-use Rattle.sorters.proofs.all_ticked.Statement.{statement}
-use Rattle.sorters.proofs.all_ticked.Tie as tie
+use Rattle.sorters.proofs.all_ticked.Goals as goal
 
 -- the six places, one by one
 six : (l : List Sorter) (c : Setup) (d : Sorter) → length l ≡ sorter_count
@@ -27,28 +26,15 @@ six (s₁ ∷ s₂ ∷ s₃ ∷ s₄ ∷ s₅ ∷ []) c d h = absurd (omega (ari
 six (s₁ ∷ s₂ ∷ s₃ ∷ s₄ ∷ s₅ ∷ s₆ ∷ []) c d h = refl
 six (s₁ ∷ s₂ ∷ s₃ ∷ s₄ ∷ s₅ ∷ s₆ ∷ s₇ ∷ l) c d h = absurd (omega (arith, h))
 
-returns : tie.Need-returns
+pub returns : goal.returns
 unfolding all_ticked
 returns c =
-    let one = c.before.before.before.before.before.before.before.before.before.before in
-    let a = one.before.before.args in
+    let a = c.args in
     rw (
-      one.ticked-as.ensures,
-      c.before.before.before.before.before.before.before.before.ticked-as2.ensures,
-      c.before.before.before.before.before.before.ticked-as3.ensures,
-      c.before.before.before.before.ticked-as4.ensures,
-      c.before.before.ticked-as5.ensures,
-      c.ticked-as6.ensures,
-    ) (six a.t1 a.setup _ (search rules))
-
-pub all-ticked-spec : {M : Type 1} → statement M
-all-ticked-spec =
-    tie.close
-    (tie.spec
-    (λ c. omega arith) (search rules)
-    (λ c. omega arith) (search rules)
-    (λ c. omega arith) (search rules)
-    (λ c. omega arith) (search rules)
-    (λ c. omega arith) (search rules)
-    (λ c. omega arith) (search rules)
-    returns)
+      c.ticked_as-one.ensures,
+      c.ticked_as-two.ensures,
+      c.ticked_as-three.ensures,
+      c.ticked_as-four.ensures,
+      c.ticked_as-five.ensures,
+      c.ticked_as-six.ensures,
+    ) (six a.sorters a.setup _ (search rules))
