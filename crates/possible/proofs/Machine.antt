@@ -72,46 +72,42 @@ module _ (xs : List ℤ) (i : ℕ) where
   weights-done h = rw (drop_of_length-le xs h)
 
 -- a sum so far: what is left of the samples makes it the whole sum
-pub record Adding (d : ℤ) (xs : List ℤ) (sum i : ℕ) : Type 0 where
+pub record Adding (d : ℤ) (xs : List ℤ) (sum : ℤ) (i : ℕ) : Type 0 where
   pub inside : i ≤ length xs
-  pub so_far : to_z w64 sum +ℤ sum_at d (drop i xs) ≡ sum_at d xs
-  pub size : nat_abs (to_z w64 sum) ≤ largest_weight * i
+  pub so_far : sum +ℤ sum_at d (drop i xs) ≡ sum_at d xs
+  pub size : nat_abs sum ≤ largest_weight * i
 
 module _ (d : ℤ) (xs : List ℤ) where
-  pub adding_start : Adding d xs 0 0
-  adding_start =
-      let z = to_z_small 0 (omega arith) in
-      record { inside = omega arith; so_far = rw z (+ℤ_idl (sum_at d xs)); size = omega (arith, ap nat_abs z) }
+  pub adding_start : Adding d xs (pos 0) 0
+  adding_start = record { inside = omega arith; so_far = +ℤ_idl (sum_at d xs); size = omega arith }
 
-  module _ (sum i : ℕ) (g : Adding d xs sum i) where
-    pub adding-done : length xs ≤ i → to_z w64 sum ≡ sum_at d xs
+  module _ (sum : ℤ) (i : ℕ) (g : Adding d xs sum i) where
+    pub adding-done : length xs ≤ i → sum ≡ sum_at d xs
     unfolding sum_of
     adding-done h =
-        let e : to_z w64 sum +ℤ sum_at d (drop i xs) ≡ to_z w64 sum = rw (drop_of_length-le xs h) (+ℤ_idr (to_z w64 sum)) in
+        let e : sum +ℤ sum_at d (drop i xs) ≡ sum = rw (drop_of_length-le xs h) (+ℤ_idr sum) in
         sym e ∙ g.so_far
 
     -- r is the code's number for the next sample
-    module _ (few : length xs ≤ most_samples) (h : i < length xs) (r : ℤ) (fr : SFits w64 r) (is : r ≡ clipped d (get_or xs i (pos 0))) where
-      next_small : nat_abs (to_z w64 sum +ℤ r) ≤ largest_weight * (i + 1)
+    module _ (few : length xs ≤ most_samples) (h : i < length xs) (r : ℤ) (is : r ≡ clipped d (get_or xs i (pos 0))) where
+      next_small : nat_abs (sum +ℤ r) ≤ largest_weight * (i + 1)
       next_small =
           let w : is_weight r ≡ true = rw is (clipped-weight d (get_or xs i (pos 0))) in
-          omega (arith, abs_add (to_z w64 sum) r, g.size, leb-true (nat_abs r) largest_weight w)
+          omega (arith, abs_add sum r, g.size, leb-true (nat_abs r) largest_weight w)
 
-      pub adding-fits : SFits w64 (to_z w64 sum +ℤ to_z w64 (of_z w64 r))
-      adding-fits = rw (to_z-of_z fr) (sfits_abs (to_z w64 sum +ℤ r) (omega (arith, next_small)))
+      pub adding-fits : SFits w64 (sum +ℤ r)
+      adding-fits = sfits_abs (sum +ℤ r) (omega (arith, next_small))
 
       -- the sum of what is left, without the next sample
       left_is : sum_at d (drop i xs) ≡ sum_at d (drop (i + 1) xs) +ℤ r
       unfolding sum_of
       left_is = rw (rest xs i (pos 0) h, is)
 
-      pub adding-more : Adding d xs (of_z w64 (to_z w64 sum +ℤ to_z w64 (of_z w64 r))) (i + 1)
+      pub adding-more : Adding d xs (sum +ℤ r) (i + 1)
       adding-more =
-          let b : to_z w64 (of_z w64 (to_z w64 sum +ℤ to_z w64 (of_z w64 r))) ≡ to_z w64 sum +ℤ r =
-          rw (to_z-of_z fr) (to_z-of_z (sfits_abs (to_z w64 sum +ℤ r) (omega (arith, next_small)))) in
           let l = sum_at d (drop (i + 1) xs) in
           record {
             inside = omega arith;
-            so_far = rw b (+ℤ_assoc (to_z w64 sum) r l ∙ ap (λ (z : ℤ). to_z w64 sum +ℤ z) (+ℤ_comm r l ∙ sym left_is) ∙ g.so_far);
-            size = rw b next_small;
+            so_far = +ℤ_assoc sum r l ∙ ap (λ (z : ℤ). sum +ℤ z) (+ℤ_comm r l ∙ sym left_is) ∙ g.so_far;
+            size = next_small;
           }

@@ -96,7 +96,7 @@ module _ (e : ℕ) (x : ℤ) (w : is_weight x ≡ true) (few : e ≤ widest) whe
   width = up (highest e x) - up (lowest e x)
 
   low_small : Small (lowest e x)
-  low_small = up_small (lowest e x) (omega (arith, least.under, at)) (omega (arith, least.in-range))
+  low_small = up_small (lowest e x) (omega (arith, least.under, at)) (omega (arith, least.in_range))
 
   -- so many divisions above the least
   above : (d : ℕ) → d ≤ 2000000 → up (lowest e x +ℤ pos d) ≡ up (lowest e x) + d
@@ -120,7 +120,7 @@ module _ (e : ℕ) (x : ℤ) (w : is_weight x ≡ true) (few : e ≤ widest) whe
       let low = least.least (up y) (omega (arith, g, s)) (omega (arith, r)) in
       let high = most.most (up y) (omega (arith, g, s)) (omega (arith, r)) in
       let d = up y - up (lowest e x) in
-      (d, omega (arith, low, high), up_inj _ _ (omega (arith, r)) (omega (arith, above d (omega (arith, r, least.in-range)), low)))
+      (d, omega (arith, low, high), up_inj _ _ (omega (arith, r)) (omega (arith, above d (omega (arith, r, least.in_range)), low)))
 
   pub is_close : (d : ℕ) → d ≤ width → Close e x (lowest e x +ℤ pos d)
   unfolding width
@@ -129,9 +129,9 @@ module _ (e : ℕ) (x : ℤ) (w : is_weight x ≡ true) (few : e ≤ widest) whe
       let m = most in
       let a = above d (omega (arith, l.off, m.off)) in
       let y = lowest e x +ℤ pos d in
-      let ys = up_small y (omega (arith, a, l.in-range, m.in-range)) (omega (arith, a, l.in-range)) in
+      let ys = up_small y (omega (arith, a, l.in_range, m.in_range)) (omega (arith, a, l.in_range)) in
       let s = up_sub y x ys small in
       record {
         near = size-from (y -ℤ x) e (omega (arith, a, s, l.off, at)) (omega (arith, a, s, m.off)) (omega (arith, a, s, l.off));
-        weight = le-leb _ _ (size-from y 999999 (omega (arith, a, l.in-range)) (omega (arith, a, m.in-range)) (omega (arith, a, l.in-range)));
+        weight = le-leb _ _ (size-from y 999999 (omega (arith, a, l.in_range)) (omega (arith, a, m.in_range)) (omega (arith, a, l.in_range)));
       }

@@ -60,10 +60,10 @@ not_lt_tells x y s h = ltb-false (up x) (up y) (sym (lt_up x y s) ∙ h)
 -- ---- sums
 
 pub up_add : (x y : ℤ) → Small x → Small y → up (x +ℤ y) + 10000000 ≡ up x + up y
-up_add x y s t = shift.up-add 10000000 x y (omega (arith, s, t))
+up_add x y s t = shift.up_add 10000000 x y (omega (arith, s, t))
 
 pub up_sub : (x y : ℤ) → Small x → Small y → up (x -ℤ y) + up y ≡ up x + 10000000
-up_sub x y s t = shift.up-sub 10000000 x y (omega (arith, s, t))
+up_sub x y s t = shift.up_sub 10000000 x y (omega (arith, s, t))
 
 -- ---- sizes, and equal numbers
 

@@ -50,6 +50,7 @@ module _ (e : ℕ) (few : e ≤ widest) where
 
     sums : (ys : List ℤ) → Near e (x ∷ xs) ys → (d : ℕ) × (d ≤ s.apart + wide) × (sum_of ys ≡ (low_sum e xs +ℤ lowest e x) +ℤ pos d)
     unfolding sum_of
+    sums [] n = elim n [ ]
     sums (y ∷ ys) (more c n) =
         let p = close_is e x w few y c in
         let q = s.sum_is ys n in
@@ -80,6 +81,7 @@ module _ (e : ℕ) (few : e ≤ widest) where
   nothing : (ys : List ℤ) → Near e [] ys → (d : ℕ) × (d ≤ 0) × (sum_of ys ≡ pos d)
   unfolding sum_of
   nothing [] none = (0, omega arith, refl)
+  nothing (y ∷ ys) n = elim n [ ]
 
   zero_of : (d : ℕ) → d ≤ 0 → pos 0 ≡ pos d
   zero_of d h = ap pos (omega arith)
