@@ -10,20 +10,20 @@ use lib.IntN.{ℤ, nat_abs, ◌+ℤ◌}
 use lib.ListN.{length}
 use lib.Signed.{lt_z}
 use borrow.Author.Tests.{leb-true, le-leb, eq-eqb, ne_eqb}
-use Rattle.laws.specs.Choice.{if◌then◌else◌, within, bit}
+use Rattle.laws.specs.Choice.{if◌then◌else◌, within}
 use Rattle.weight.specs.Weight.{is_weight}
 use Rattle.laws.proofs.Tests.{and_intro, if_ind, by_cases}
 use Rattle.laws.proofs.Signed.{abs_add}
 use Rattle.lists.specs.Sums.{sum_of, squares_of}
 use Rattle.lists.specs.Each.{counted}
-use Rattle.lists.specs.Counts.{add_up, one_more, tab}
+use Rattle.lists.specs.Counts.{add_up, one_more}
 use Rattle.lists.proofs.Counts.{here, sum-one_more, tab-same, tab_length, tab-more}
 use Rattle.tally.specs.Tally.{graded, total, empty_tally, tally_fit, has_room, largest_with, smallest_with, counted_with, weighed_with, added, is_verdict}
 use Rattle.tally.specs.declared.tally.Tally.{Tally}
 use Rattle.tally.proofs.Ones.{ones, grade_ones}
 use Rattle.book.specs.Book.{Verdict}
 use Rattle.part.specs.Class.{holds, class_of}
-use Rattle.part.specs.Part.{Part, empty_part, part_fit, added_part}
+use Rattle.part.specs.Part.{empty_part, part_fit, added_part}
 use Rattle.part.proofs.Held.{class-known, holds-is}
 use Rattle.part.proofs.Laws.{part_fit_lem}
 use Rattle.book.specs.Page.{count_of, nets_of, largest_from, smallest_from, largest_of, smallest_of, tally_of_page, in_class, histogram, part_of_page}

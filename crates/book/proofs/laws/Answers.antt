@@ -12,8 +12,7 @@ use Rattle.event.specs.declared.Event.TheVariants.{Cancel}
 use Rattle.book.specs.Book.{Verdict, Book, has_place, entered, commanded}
 use Rattle.book.specs.Laws.{Laws}
 use Rattle.book.proofs.Pages.{part-more, counts_add}
-use Rattle.book.proofs.laws.Statement.{statement}
-use Rattle.book.proofs.laws.Tie as tie
+use Rattle.book.proofs.laws.Goals as goal
 
 undone : (b : Book) (v : Verdict) (k : ℕ) → has_place b ≡ true → (commanded (entered b v) Cancel).pages k ≡ b.pages k
 unfolding entered commanded
@@ -45,8 +44,5 @@ laws-hold =
       active-cleared = λ b. rw (eq-eqb b.code b.code refl) (and-false b.chance);
     }
 
-returns : tie.Need-returns
+pub returns : goal.returns
 returns c = laws-hold
-
-pub laws-spec : {M : Type 1} → statement M
-laws-spec = tie.close (tie.spec returns)
