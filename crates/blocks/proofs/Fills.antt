@@ -38,7 +38,7 @@ module _ (before after : List ℕ) (held : ℕ) (l : Left) (r : ReadBehind befor
         counted = length-take-le count (drop held after) (omega (arith, w, n));
         order = let e = r.first in omega (arith, e);
         within = r.within;
-        bytes = rw (r.first, r.counted, more) (take-add held count after ∙ ap (λ (t : List ℕ). t ++ take count (drop held after)) r.held-stay);
+        bytes = rw (r.first, r.counted, more) (take-add held count after ∙ ap (λ (t : List ℕ). t ++ take count (drop held after)) r.held_stay);
       }
 
   module _ (over : l.over ≢ 0) where
@@ -71,5 +71,5 @@ module _ (before after : List ℕ) (held : ℕ) (l : Left) (r : ReadBehind befor
           within = omega (arith, m, small, same);
           bytes =
               rw (ne_eqb l.over 0 over, ends_it (take held before) (omega (arith, held-length, some)), add-one held)
-              (take-suc-set after held lf (omega (arith, small, same)) ∙ ap (λ (t : List ℕ). t ++ lf ∷ []) r.held-stay);
+              (take-suc-set after held lf (omega (arith, small, same)) ∙ ap (λ (t : List ℕ). t ++ lf ∷ []) r.held_stay);
         }

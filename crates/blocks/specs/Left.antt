@@ -1,5 +1,5 @@
 -- What is left of the input in a buffer, and what a read puts behind it. Of a line of text that has begun the longest line and one byte more are kept: a longer one is refused whatever it holds.
-use Rattle.std.specs.Prelude.{ℕ, zero, suc, ◌+◌, ◌≤◌, ◌<◌, ◌≡◌, Bool, not, List, [], ◌∷◌, ◌++◌, eqb, leb, ltb, ℤ, pos, negsuc, length, take, drop}
+use Rattle.std.specs.Prelude.{ℕ, zero, suc, ◌+◌, ◌≤◌, ◌<◌, ◌≡◌, Bool, not, List, [], ◌∷◌, ◌++◌, eqb, leb, ltb, ℤ, pos, negsuc, length, take, drop, Result, Ok, Err}
 use Rattle.laws.specs.Choice.{if◌then◌else◌}
 use Rattle.decimal.specs.Bytes.{lf}
 use Rattle.text.specs.Read.{longest_line}
@@ -16,6 +16,11 @@ kept_length n = if ltb n kept_bytes then n else kept_bytes
 -- the smaller of two numbers
 abbrev pub least_of : ℕ → ℕ → ℕ
 least_of a b = if ltb a b then a else b
+
+-- what `read` answers, as a number: how many bytes it read; less than 0 where it failed
+abbrev pub answer : {E : Type 0} → Result ℕ E → ℤ
+answer (Ok n) = pos n
+answer (Err e) = negsuc 0
 
 -- what `read` answers: how many bytes it read; 0 at the end of the input; less where it failed
 abbrev pub standing : ℤ → ℕ

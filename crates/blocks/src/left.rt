@@ -1,9 +1,9 @@
 // What is left of the input in a buffer.
 ghost use Rattle.std.specs.Prelude.{◌<◌, ◌≤◌, ◌≡◌, length, take, drop};
-ghost use Rattle.blocks.specs.Left.{kept_bytes, kept_length, standing, none_left, last_of, past_of, ReadBehind, Filled, Refilled};
+ghost use Rattle.blocks.specs.Left.{kept_bytes, kept_length, standing, none_left, last_of, past_of, answer, ReadBehind, Filled, Refilled};
 
 use crate::number::{least, less};
-use libc::STDIN_FILENO;
+use std::io::{Read, Result};
 use text::LONGEST_LINE;
 
 // A line over the longest is refused whatever follows: so much of it stands for all of it.
@@ -25,16 +25,18 @@ const ENDED: u64 = 1;
 const FAILED: u64 = 2;
 
 // How the input stands when `read` has answered this.
-fn standing_at(got: isize) -> u64
-    ensures { result ≡ standing got }
+fn standing_at(answered: Result<usize>) -> u64
+    ensures { result ≡ standing (answer answered) }
 {
-    if 1 <= got {
-        return MORE;
+    match answered {
+        Ok(got) => {
+            if 1 <= got {
+                return MORE;
+            }
+            ENDED
+        }
+        Err(_) => FAILED,
     }
-    if 0 <= got {
-        return ENDED;
-    }
-    FAILED
 }
 
 // How much is kept of a line so long.
@@ -62,27 +64,26 @@ fn keep(input: &mut [u8], start: usize, end: usize) -> usize
 }
 
 // Reads more behind the bytes that are held.
-fn read_behind(input: &mut [u8], held: usize) -> Left
+fn read_behind<R: Read>(reader: &mut R, input: &mut [u8], held: usize) -> Left
     requires { held ≤ length input.old }
     ensures { ReadBehind input.old held result input.new }
 {
-    let rest = &mut input[held..];
-    let got = libc::read(STDIN_FILENO, rest);
-    let n = io::count(got, rest);
+    let answered = reader.read(&mut input[held..]);
+    let n = answered.unwrap_or(0);
     Left {
         start: 0,
         end: held + n,
-        over: standing_at(got),
+        over: standing_at(answered),
     }
 }
 
 // Reads more behind the bytes that are held; at the end of the input an LF ends them, if there are any.
-fn read_more(input: &mut [u8], held: usize) -> Left
+fn read_more<R: Read>(reader: &mut R, input: &mut [u8], held: usize) -> Left
     requires { held < length input.old }
     ensures filled { Filled (take held input.old) result input.new }
     ensures input_len_unchanged { length input.new ≡ length input.old }
 {
-    let read = read_behind(&mut *input, held);
+    let read = read_behind(reader, &mut *input, held);
     if read.over == MORE {
         return read;
     }
@@ -135,13 +136,13 @@ impl Left {
 
     // What is kept of the bytes moves to the front, and more is read behind it. A buffer with no room for more than what is
     // kept takes no read, and nothing changes.
-    pub fn refilled(self, input: &mut [u8]) -> Left
+    pub fn refilled<R: Read>(self, reader: &mut R, input: &mut [u8]) -> Left
         ensures { Refilled self input.old result input.new }
     {
         if input.len() <= KEPT {
             return self;
         }
         let held = keep(&mut *input, self.start, self.end);
-        read_more(&mut *input, held)
+        read_more(reader, &mut *input, held)
     }
 }

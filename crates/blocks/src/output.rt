@@ -1,10 +1,10 @@
-// What is printed goes to standard output.
+// What is printed goes to a writer.
 ghost use Rattle.std.specs.Prelude.{◌≡◌, length};
 ghost use Rattle.blocks.specs.Left.{least_of};
 ghost use Rattle.blocks.specs.Taken.{all_taken, TakenOf};
 
 use crate::number::least;
-use libc::STDOUT_FILENO;
+use std::io::Write;
 
 // Of so many bytes, how many `write` has taken.
 #[derive(Clone, Copy)]
@@ -23,14 +23,13 @@ impl Taken {
 }
 
 // Writes the first `end` bytes, until all are taken or a `write` takes none.
-pub fn write_out(out: &[u8], end: usize) -> Taken
+pub fn write_out<W: Write>(writer: &mut W, out: &[u8], end: usize) -> Taken
     ensures { TakenOf (least_of end (length out.now)) result }
 {
     let of = least(end, out.len());
     let mut done = 0;
     while done < of {
-        let rest = &out[done..of];
-        let put = io::count(libc::write(STDOUT_FILENO, rest), rest);
+        let put = writer.write(&out[done..of]).unwrap_or(0);
         if put == 0 {
             return Taken {
                 of: of,

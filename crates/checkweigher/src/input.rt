@@ -1,13 +1,14 @@
-// Standard input to standard output, until the input ends.
+// The input to the output, until the input ends.
 ghost use Rattle.std.specs.Prelude.{◌≡◌, length};
 ghost use Rattle.controller.specs.Answer.{no_room};
 ghost use Rattle.checkweigher.specs.Traces.{GoesOn, EndsSo};
 
-use blocks::{Left, Taken, write_out};
+use blocks::{Left, Taken, large_buffer, write_out};
 use controller::no_room;
 use line::Line;
 use sessions::serve_block;
 use settings::{RECORDS, Settings};
+use std::io::{Read, Write};
 
 // How the program ends: no more input comes, and the `Left` says whether it has ended or a read failed; `write` did not take
 // all that was due; or the turns are used up, so many.
@@ -26,22 +27,22 @@ fn is_full(out: &[u8], at: usize) -> bool
 }
 
 // More is read where no line is left that is complete.
-fn go_on(input: &mut [u8], rest: Left, full: bool) -> Left
+fn go_on<R: Read>(reader: &mut R, input: &mut [u8], rest: Left, full: bool) -> Left
     ensures { GoesOn full rest input.old result input.new }
 {
     if full {
         return rest;
     }
-    rest.refilled(&mut *input)
+    rest.refilled(reader, &mut *input)
 }
 
 // From a fresh line and memory: the lines in the buffer that are complete are answered, as many as the output has room for,
 // and the answers written; where none is left, more is read.
-pub(crate) fn serve_input() -> Ended
+pub(crate) fn serve_input<R: Read, W: Write>(reader: &mut R, writer: &mut W) -> Ended
     ensures { EndsSo result }
 {
-    let mut input = io::large_buffer();
-    let mut out = io::large_buffer();
+    let mut input = large_buffer();
+    let mut out = large_buffer();
     let mut tallies = [0i64; tallies::LENGTH];
     let mut line = Line::fresh();
     let mut settings = [Settings::blank(); RECORDS as usize];
@@ -51,7 +52,7 @@ pub(crate) fn serve_input() -> Ended
         let start = left.start;
         let end = left.end;
         let block = serve_block(line, settings, &mut tallies, &input[start..end], &mut out);
-        let taken = write_out(&out, block.at);
+        let taken = write_out(writer, &out, block.at);
         if !taken.all() {
             return Ended::Output(taken);
         }
@@ -59,7 +60,7 @@ pub(crate) fn serve_input() -> Ended
         if !full & left.is_last() {
             return Ended::Input(left);
         }
-        left = go_on(&mut input, left.past(block.start), full);
+        left = go_on(reader, &mut input, left.past(block.start), full);
         line = block.line;
         settings = block.settings;
         turns += 1;

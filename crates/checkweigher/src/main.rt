@@ -5,6 +5,6 @@ mod input;
 
 use input::serve_input;
 
-fn main() {
-    serve_input();
+fn main(rt: HostRuntime) {
+    serve_input(&mut rt.stdin(), &mut rt.stdout());
 }

@@ -1,13 +1,14 @@
-// Standard input to standard output, until the input ends.
+// The input to the output, until the input ends.
 ghost use Rattle.std.specs.Prelude.{◌≡◌, ◌*◌, ◌≤◌, length};
 ghost use Rattle.exitlog.specs.Lines.{call_room};
 ghost use Rattle.calls.specs.Traces.{EndsSo, Finished};
 ghost use Rattle.exits.specs.Session.{places, exit_calls, state_of, Holds};
 
 use crate::session::{Call, PLACES, close, serve_line};
-use blocks::{Left, Taken, line_end, write_out};
+use blocks::{Left, large_buffer, line_end, write_out};
 use calls::Ended;
 use exitlog::CALL_ROOM;
+use std::io::{Read, Write};
 
 // Zeros for what is printed, for the ticks of a list and for the pairs; each says its length alone.
 fn output() -> [u8; CALL_ROOM]
@@ -29,7 +30,8 @@ fn pair_buffer() -> [u64; 2 * PLACES]
 }
 
 // The end of the input ends the last call.
-fn finish(
+fn finish<W: Write>(
+    writer: &mut W,
     call: Call,
     verdicts: &[u64],
     signals: &[u64],
@@ -41,7 +43,7 @@ fn finish(
     ensures { Finished exit_calls (state_of call verdicts.now signals.now) left result }
 {
     let at = close(call, verdicts, signals, pairs, out);
-    let taken = write_out(out, at);
+    let taken = write_out(writer, out, at);
     if taken.all() {
         return Ended::Input(left);
     }
@@ -49,10 +51,10 @@ fn finish(
 }
 
 // Each complete line in the buffer is served, and what it prints written; where none is left, more is read.
-pub(crate) fn serve_input() -> Ended
+pub(crate) fn serve_input<R: Read, W: Write>(reader: &mut R, writer: &mut W) -> Ended
     ensures { EndsSo exit_calls result }
 {
-    let mut input = io::large_buffer();
+    let mut input = large_buffer();
     let mut out = output();
     let mut verdicts = list();
     let mut signals = list();
@@ -67,9 +69,9 @@ pub(crate) fn serve_input() -> Ended
         let end = line_end(&input[..last], start);
         if last <= end {
             if left.is_last() {
-                return finish(call, &verdicts, &signals, &mut pairs, &mut out, left);
+                return finish(writer, call, &verdicts, &signals, &mut pairs, &mut out, left);
             }
-            left = left.refilled(&mut input);
+            left = left.refilled(reader, &mut input);
             continue;
         }
         let served = serve_line(
@@ -80,7 +82,7 @@ pub(crate) fn serve_input() -> Ended
             &input[start..end],
             &mut out,
         );
-        let taken = write_out(&out, served.at);
+        let taken = write_out(writer, &out, served.at);
         if !taken.all() {
             return Ended::Output(taken);
         }

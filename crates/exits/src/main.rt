@@ -6,6 +6,6 @@ mod session;
 
 use input::serve_input;
 
-fn main() {
-    serve_input();
+fn main(rt: HostRuntime) {
+    serve_input(&mut rt.stdin(), &mut rt.stdout());
 }

@@ -1,13 +1,14 @@
-// Standard input to standard output, until the input ends.
+// The input to the output, until the input ends.
 ghost use Rattle.std.specs.Prelude.{◌≡◌, ◌≤◌, length};
 ghost use Rattle.print.specs.Reply.{reply_room};
 ghost use Rattle.calls.specs.Traces.{EndsSo, Finished};
 ghost use Rattle.margin.specs.Session.{places, margin_calls, state_of, Holds};
 
 use crate::session::{Call, PLACES, close, serve_line};
-use blocks::{Left, line_end, write_out};
+use blocks::{Left, large_buffer, line_end, write_out};
 use calls::Ended;
 use print::REPLY_ROOM;
+use std::io::{Read, Write};
 
 // Zeros for what is printed and for the samples; each says its length alone.
 fn output() -> [u8; REPLY_ROOM]
@@ -23,12 +24,12 @@ fn list() -> [i64; PLACES]
 }
 
 // The end of the input ends the last call.
-fn finish(call: Call, samples: &[i64], out: &mut [u8], left: Left) -> Ended
+fn finish<W: Write>(writer: &mut W, call: Call, samples: &[i64], out: &mut [u8], left: Left) -> Ended
     requires { Holds call samples.now × (reply_room ≤ length out.old) }
     ensures { Finished margin_calls (state_of call samples.now) left result }
 {
     let at = close(call, samples, out);
-    let taken = write_out(out, at);
+    let taken = write_out(writer, out, at);
     if taken.all() {
         return Ended::Input(left);
     }
@@ -36,10 +37,10 @@ fn finish(call: Call, samples: &[i64], out: &mut [u8], left: Left) -> Ended
 }
 
 // Each complete line in the buffer is served, and what it prints written; where none is left, more is read.
-pub(crate) fn serve_input() -> Ended
+pub(crate) fn serve_input<R: Read, W: Write>(reader: &mut R, writer: &mut W) -> Ended
     ensures { EndsSo margin_calls result }
 {
-    let mut input = io::large_buffer();
+    let mut input = large_buffer();
     let mut out = output();
     let mut samples = list();
     let mut call = Call::none();
@@ -52,13 +53,13 @@ pub(crate) fn serve_input() -> Ended
         let end = line_end(&input[..last], start);
         if last <= end {
             if left.is_last() {
-                return finish(call, &samples, &mut out, left);
+                return finish(writer, call, &samples, &mut out, left);
             }
-            left = left.refilled(&mut input);
+            left = left.refilled(reader, &mut input);
             continue;
         }
         let served = serve_line(call, &mut samples, &input[start..end], &mut out);
-        let taken = write_out(&out, served.at);
+        let taken = write_out(writer, &out, served.at);
         if !taken.all() {
             return Ended::Output(taken);
         }
