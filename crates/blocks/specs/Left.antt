@@ -17,7 +17,7 @@ kept_length n = if ltb n kept_bytes then n else kept_bytes
 abbrev pub least_of : ℕ → ℕ → ℕ
 least_of a b = if ltb a b then a else b
 
--- what `read` answers, as a number: how many bytes it read; less than 0 where it failed
+-- what `read` answers, as one number: how many bytes it read; less than 0 where it failed
 abbrev pub answer : {E : Type 0} → Result ℕ E → ℤ
 answer (Ok n) = pos n
 answer (Err e) = negsuc 0

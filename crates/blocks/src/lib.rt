@@ -1,9 +1,9 @@
 // Input by blocks and output, as every program here reads and writes them: from a reader and to a writer, which are standard
 // input and standard output in each program's `main`.
 //
-// A program owns a buffer for the input (`large_buffer`), and a `Left` says which bytes of it are still to be taken. `line_end` finds the end
-// of a line, `Left::past` goes past the lines that were taken, and `Left::refilled` keeps what is left of a line that has
-// begun and reads more behind it. At the end of the input an LF ends that line, so that the last one goes the way of
+// A program owns a `large_buffer` for the input, and a `Left` says which bytes of it are still to be taken. `line_end` finds
+// the end of a line, `Left::past` goes past the lines that were taken, and `Left::refilled` keeps what is left of a line that
+// has begun and reads more behind it. At the end of the input an LF ends that line, so that the last one goes the way of
 // every other; a read that fails ends the input as its end does. `write_out` writes until all is taken, by `write`'s own count.
 //
 // No call has a condition that its caller must see to. Only these functions make a `Left` or a `Taken`: whoever holds one
