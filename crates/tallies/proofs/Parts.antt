@@ -16,8 +16,8 @@ use Rattle.laws.proofs.Tests.{both, and_intro}
 use Rattle.lists.specs.Each.{all_of}
 use Rattle.lists.specs.Counts.{add_up}
 use Rattle.tally.specs.Tally.{tally_fit}
-use Rattle.part.specs.Part.{Part, empty_part, part_fit}
-use Rattle.part.specs.Classes.{packed, counts_of}
+use Rattle.part.specs.Part.{Part, part_fit}
+use Rattle.part.specs.Classes.{packed}
 use Rattle.part.proofs.Laws.{fit-part, kept-counts}
 use Rattle.tallies.specs.Memory.{part_numbers, part, tally_of, part_of, unsigned, numbers_fit, part_at, part_at_fit, lies, fit_at, read_at, with_part, written, held, zeros, tallies_length}
 

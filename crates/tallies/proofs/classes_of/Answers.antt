@@ -1,16 +1,13 @@
 -- `classes_of` reads the 21 counts. Assumes nothing.
-use borrow.Author.Rules.{rules}
-use lib.IntN.{ℤ, pos, nat_abs}
+use lib.IntN.{pos, nat_abs}
 use lib.ListN.{get_or-map}
-use Prim.Native.Nat.{ℕ}
 use Rattle.part.specs.Classes.{packed}
-use Rattle.tallies.proofs.classes_of.Statement.{statement}
-use Rattle.tallies.proofs.classes_of.Tie as tie
+use Rattle.tallies.proofs.classes_of.Goals as goal
 
-returns : tie.Need-returns
+pub returns : goal.returns
 unfolding packed
 returns c =
-    let p = c.before.before.before.before.before.before.before.args.p.now in
+    let p = c.args.p.now in
     rw (
       get_or-map nat_abs p 0 (pos 0),
       get_or-map nat_abs p 1 (pos 0),
@@ -33,18 +30,11 @@ returns c =
       get_or-map nat_abs p 18 (pos 0),
       get_or-map nat_abs p 19 (pos 0),
       get_or-map nat_abs p 20 (pos 0),
-      c.before.before.before.before.before.before.three-at.ensures,
-      c.before.before.before.before.before.three-at2.ensures,
-      c.before.before.before.before.three-at3.ensures,
-      c.before.before.before.three-at4.ensures,
-      c.before.before.three-at5.ensures,
-      c.before.three-at6.ensures,
-      c.three-at7.ensures,
+      c.three_at.ensures,
+      c.three_at-2.ensures,
+      c.three_at-3.ensures,
+      c.three_at-4.ensures,
+      c.three_at-5.ensures,
+      c.three_at-6.ensures,
+      c.three_at-7.ensures,
     )
-
-pub classes-of-spec : {M : Type 1} → statement M
-classes-of-spec =
-    tie.close
-    (tie.spec
-    (search rules) (search rules) (search rules) (search rules) (search rules) (search rules) (search rules)
-    returns)
