@@ -81,6 +81,7 @@ impl Bench {
     }
 
     // An accepted run: from stopped it arms, and the grosses before it are forgotten.
+    #[tactic(auto, unfolding(crate::specs::Bench::begun))]
     pub fn begun(self, stopped: bool) -> Bench
         ensures { result ≡ begun self stopped }
     {
@@ -122,6 +123,7 @@ impl Bench {
     }
 
     // A running tick: its gross is one of the last, and up to nearzero it arms.
+    #[tactic(auto, unfolding(crate::specs::Bench::ticked_on))]
     pub fn ticked(self, gross: i64, nearzero: i64) -> Bench
         ensures { result ≡ ticked_on self gross nearzero }
     {
@@ -133,6 +135,7 @@ impl Bench {
     }
 
     // Ten weights that differ by at most 2 divisions.
+    #[tactic(auto, unfolding(crate::specs::Bench::steady))]
     fn steady(self) -> bool
         ensures { result ≡ steady self }
     {
@@ -147,6 +150,7 @@ impl Bench {
     }
 
     // An armed line, the gross above nearzero and lying still: a box.
+    #[tactic(auto, unfolding(crate::specs::Bench::detects))]
     pub fn detects(self, gross: i64, nearzero: i64) -> bool
         ensures { result ≡ detects self gross nearzero }
     {
@@ -157,6 +161,7 @@ impl Bench {
     }
 
     // A detection disarms.
+    #[tactic(auto, unfolding(crate::specs::Bench::disarmed))]
     pub fn disarmed(self) -> Bench
         ensures { result ≡ disarmed self }
     {
