@@ -1,16 +1,19 @@
 -- `ticked`: the waits before place i have fallen, and those left stand packed. Assumes nothing.
 use borrow.Author.Rules.{rules}
-use borrow.Author.Tests.{eq-eqb, ne_eqb}
+use borrow.Author.Tests.{eq-eqb, ne_eqb, ltb-true, ltb-false}
 use mathlib.Core.Bool.{true, false}
 use mathlib.Core.Path.{◌≡◌, sym, ◌∙◌}
 use native.Mathlib.Omega.{arith}
-use lib.ListN.{get_or}
-use Rattle.lists.proofs.Places.{none-packed, packed-stays, packed-leaves}
+use mathlib.Core.List.{List}
+use Prim.Native.Nat.{ℕ, ◌+◌, ◌-◌, ◌<◌, ◌≤◌}
+use lib.ListN.{length, get_or, set}
+use lib.Dec.{ltb}
+use Rattle.laws.proofs.Tests.{by_cases}
+use Rattle.lists.proofs.Places.{Packing, none-packed, packed-stays, packed-leaves}
 use Rattle.time.specs.Time.{fallen, ended}
 use Rattle.queue.specs.Queue.{places, laid, waiting, is_empty, queue_ticked}
 use Rattle.queue.proofs.Waits.{waiting-is, empty-is, waits-counted}
 use Rattle.queue.proofs.Queue.ticked.Goals as goal
-use Rattle.queue.proofs.Queue.ticked.Goals.{then-wait-gt1, else-wait-gt1}
 
 pub returns-then-self-eq0 : goal.returns-then-self-eq0
 unfolding queue_ticked
@@ -24,18 +27,24 @@ loop-i-init c =
     let q = c.args.self in
     (search rules, omega (arith, c.waiting-n.ensures, waiting-is q (search rules)), omega arith, none-packed places 0 ended fallen q.waits)
 
+-- a wait above 1 falls and stays, any other leaves
+step :
+    (w : List ℕ) (i : ℕ) (left next : List ℕ) (k m : ℕ) → Packing places 0 ended fallen w i left k → i < length w → i < places
+    → (1 < get_or w i 0 → (next ≡ set left k (get_or w i 0 - 1)) × (m ≡ k + 1)) → (get_or w i 0 ≤ 1 → (next ≡ left) × (m ≡ k))
+    → Packing places 0 ended fallen w (i + 1) next m
+step w i left next k m h n t stays leaves =
+    let x = get_or w i 0 in
+    by_cases (ltb 1 x)
+    (λ b. let s = stays (ltb-true 1 x b) in rw (s.0, s.1) (packed-stays places 0 ended fallen w i left k h n t (ne_eqb (fallen x) 0 (λ e. omega (arith, ltb-true 1 x b)))))
+    (λ b. let s = leaves (ltb-false 1 x b) in rw (s.0, s.1) (packed-leaves places 0 ended fallen w i left k h n (eq-eqb (fallen x) 0 (omega (arith, ltb-false 1 x b)))))
+
 pub loop-i-preserved : goal.loop-i-preserved
 loop-i-preserved c =
-    let l = c.loop-i in
-    let w = c.args.self.waits in
-    let x = get_or w l.i 0 in (
+    let l = c.loop-i in (
       l.invariant.0,
       l.invariant.1,
       omega arith,
-      elim c.if-wait-gt1.branch [
-        | then-wait-gt1 t ↦ rw (t.left-is, t.k-is) (packed-stays places 0 ended fallen w l.i l.left l.k l.invariant.3 (omega arith) (omega arith) (ne_eqb (fallen x) 0 (λ e. omega arith)))
-        | else-wait-gt1 t ↦ rw (t.left-is, t.k-is) (packed-leaves places 0 ended fallen w l.i l.left l.k l.invariant.3 (omega arith) (eq-eqb (fallen x) 0 (omega arith)))
-      ],
+      step c.args.self.waits l.i l.left _ l.k _ l.invariant.3 (omega arith) (omega arith) (λ t. grind arith) (λ t. grind arith),
     )
 
 pub returns : goal.returns
