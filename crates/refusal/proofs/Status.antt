@@ -5,16 +5,14 @@ use Prim.Native.Nat.{ℕ, ◌≤◌}
 use native.Mathlib.Omega.{arith}
 use lib.Dec.{eqb}
 use borrow.Author.Tests.{eqb-true, eqb-false, ne_eqb}
-use Rattle.laws.specs.Choice.{if◌then◌else◌}
-use Rattle.laws.proofs.Tests.{both, if_ind, by_cases, never}
+use Rattle.laws.proofs.Tests.{both, if_ind, by_cases}
 use Rattle.event.specs.Kind.{is_run, is_stop, is_setup, is_store}
 use Rattle.event.specs.declared.Event.{Event}
 use Rattle.event.specs.declared.Setup as setup
 use Rattle.event.specs.declared.Event.TheVariants.{Setup}
 use Rattle.status.specs.Status.{stopped, running, paused, emergency}
-use Rattle.refusal.specs.Table.{status_no, emergency_no, paused_no, table, first_holding}
+use Rattle.refusal.specs.Table.{status_no, emergency_no, paused_no}
 use Rattle.refusal.specs.Rows.{status_refusal}
-use Rattle.refusal.specs.declared.Faults.{Faults}
 
 -- a status is one of them alone
 other-status : (s k n : ℕ) (b : Bool) → b && eqb s k ≡ true → (k ≡ n → ⊥) → eqb s n ≡ false
