@@ -9,12 +9,8 @@ use Rattle.part.specs.Part.{added_part}
 use Rattle.tally.specs.Tally.{tally_fit, largest_with, smallest_with, counted_with, weighed_with, added}
 use Rattle.sheet.specs.Sheet.{sheet_of}
 use Rattle.sheet.specs.Bench.{tallied}
-use Rattle.sheet.proofs.theorems.bench.Statement.{statement}
-use Rattle.sheet.proofs.theorems.bench.Tie as tie
+use Rattle.sheet.proofs.theorems.bench.Goals as goal
 
-returns : tie.Need-returns
+pub returns : goal.returns
 unfolding nearest rounded grade_of root root_from tally_fit report_fit spread_of largest_with smallest_with counted_with weighed_with added class_of added_part sheet_of tallied
 returns c = record { grades = refl; means = refl; sd = refl; sdp = refl }
-
-pub bench-spec : {M : Type 1} → statement M
-bench-spec = tie.close (tie.spec returns)
