@@ -1,6 +1,7 @@
 // What is left of the input in a buffer.
 ghost use Rattle.std.specs.Prelude.{◌<◌, ◌≤◌, ◌≡◌, length, take, drop};
-ghost use Rattle.blocks.specs.Left.{kept_bytes, kept_length, standing, none_left, last_of, past_of, answer, ReadBehind, Filled, Refilled};
+ghost use Rattle.blocks.specs.Left.{kept_bytes, kept_length, standing, none_left, last_of, past_of, answer, bytes_left, ReadBehind, Filled, Refilled};
+ghost use Rattle.blocks.specs.Known.{Drawn};
 
 use crate::number::{least, less};
 use std::io::{Read, Result};
@@ -66,7 +67,8 @@ fn keep(input: &mut [u8], start: usize, end: usize) -> usize
 // Reads more behind the bytes that are held.
 fn read_behind<R: Read>(reader: &mut R, input: &mut [u8], held: usize) -> Left
     requires { held ≤ length input.old }
-    ensures { ReadBehind input.old held result input.new }
+    ensures behind { ReadBehind input.old held result input.new }
+    ensures drawn { held < length input.old → Drawn (R.remaining reader.old) (R.remaining reader.new) (take held input.old) result input.new }
 {
     let answered = reader.read(&mut input[held..]);
     let n = answered.unwrap_or(0);
@@ -82,6 +84,7 @@ fn read_more<R: Read>(reader: &mut R, input: &mut [u8], held: usize) -> Left
     requires { held < length input.old }
     ensures filled { Filled (take held input.old) result input.new }
     ensures input_len_unchanged { length input.new ≡ length input.old }
+    ensures drawn { Drawn (R.remaining reader.old) (R.remaining reader.new) (take held input.old) result input.new }
 {
     let read = read_behind(reader, &mut *input, held);
     if read.over == MORE {
@@ -137,7 +140,8 @@ impl Left {
     // What is kept of the bytes moves to the front, and more is read behind it. A buffer with no room for more than what is
     // kept takes no read, and nothing changes.
     pub fn refilled<R: Read>(self, reader: &mut R, input: &mut [u8]) -> Left
-        ensures { Refilled self input.old result input.new }
+        ensures refilled { Refilled self input.old result input.new }
+        ensures drawn { kept_bytes < length input.old → Drawn (R.remaining reader.old) (R.remaining reader.new) (take kept_bytes (bytes_left self input.old)) result input.new }
     {
         if input.len() <= KEPT {
             return self;

@@ -1,5 +1,6 @@
 // What is printed goes to a writer.
-ghost use Rattle.std.specs.Prelude.{◌≡◌, length};
+ghost use Rattle.std.specs.Prelude.{◌≡◌, length, take};
+ghost use Rattle.std.specs.Io.KnownBytes.{Appends};
 ghost use Rattle.blocks.specs.Left.{least_of};
 ghost use Rattle.blocks.specs.Taken.{all_taken, TakenOf};
 
@@ -24,7 +25,8 @@ impl Taken {
 
 // Writes the first `end` bytes, until all are taken or a `write` takes none.
 pub fn write_out<W: Write>(writer: &mut W, out: &[u8], end: usize) -> Taken
-    ensures { TakenOf (least_of end (length out.now)) result }
+    ensures taken { TakenOf (least_of end (length out.now)) result }
+    ensures written { Appends (W.contents writer.old) (W.contents writer.new) (take result.taken out.now) }
 {
     let of = least(end, out.len());
     let mut done = 0;

@@ -6,14 +6,14 @@ use Rattle.blocks.proofs.left.read_more.Goals as goal
 pub returns-then-read-eq-MORE-clause-filled : goal.returns-then-read-eq-MORE-clause-filled
 returns-then-read-eq-MORE-clause-filled g c =
     let r = c.read_behind-read in
-    fills_more c.args.input.now r.new.input c.args.held r.result r.ensures c.if-read-eq-MORE.true
+    fills_more c.args.input.now r.new.input c.args.held r.result r.ensures.behind c.if-read-eq-MORE.true
 
 pub returns-then-held-eq0-clause-filled : goal.returns-then-held-eq0-clause-filled
 returns-then-held-eq0-clause-filled g c =
     let r = c.read_behind-read in
-    fills-none c.args.input.now r.new.input c.args.held r.result r.ensures c.if-read-eq-MORE.false (search rules)
+    fills-none c.args.input.now r.new.input c.args.held r.result r.ensures.behind c.if-read-eq-MORE.false (search rules)
 
 pub returns-clause-filled : goal.returns-clause-filled
 returns-clause-filled g c =
     let r = c.read_behind-read in
-    fills-end c.args.input.now r.new.input c.args.held r.result r.ensures c.if-read-eq-MORE.false (search rules) c.requires (search rules)
+    fills-end c.args.input.now r.new.input c.args.held r.result r.ensures.behind c.if-read-eq-MORE.false (search rules) c.requires (search rules)
