@@ -1,6 +1,6 @@
 -- Bench mode over one event and over every list: an arming between two detections, and no two-on. Assumes nothing.
 use mathlib.Core.Path.{◌≡◌, refl, sym, ◌∙◌}
-use mathlib.Core.Bool.{Bool, true, false, ◌&&◌, ◌||◌}
+use mathlib.Core.Bool.{true, false, ◌&&◌, ◌||◌}
 use mathlib.Core.List.{List, [], ◌∷◌}
 use Prim.Native.Nat.{ℕ, ◌≤◌}
 use native.Mathlib.Omega.{arith}
@@ -12,7 +12,6 @@ use Rattle.laws.specs.Choice.{within}
 use Rattle.laws.proofs.Tests.{both, neither, if_ind, by_cases, clash, never}
 use Rattle.settings.specs.declared.Settings.{Settings}
 use Rattle.tally.specs.Tally.{is_verdict}
-use Rattle.bench.specs.Bench.{begun}
 use Rattle.bench.proofs.Grosses.{begun_armed}
 use Rattle.event.specs.Setup.{bench_mode, is_bench}
 use Rattle.event.specs.Event.{event_ranged}

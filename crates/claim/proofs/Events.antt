@@ -1,12 +1,12 @@
 -- Each of the twelve kinds of event, accepted, goes with the book; a refused one changes nothing. Assumes nothing.
-use mathlib.Core.Path.{◌≡◌, refl, sym, subst, ◌∙◌}
-use mathlib.Core.Bool.{Bool, true, false, ◌&&◌, ◌||◌, not, and-false, and-true, or-true, or_false}
+use mathlib.Core.Path.{◌≡◌, refl, sym, subst}
+use mathlib.Core.Bool.{Bool, true, false, ◌&&◌, ◌||◌, not, and-false, and-true, or-true}
 use mathlib.Core.List.{List, [], ◌∷◌}
 use Prim.Native.Nat.{ℕ, ◌≤◌}
 use native.Mathlib.Omega.{arith}
 use lib.Dec.{T, eqb, leb}
 use lib.IntN.{ℤ}
-use borrow.Author.Tests.{eqb-true, eqb-false, ne_eqb, leb-true, not-true, not-false}
+use borrow.Author.Tests.{eqb-false, ne_eqb, leb-true, not-true}
 use Rattle.laws.proofs.Tests.{both, and_intro, if_ind, by_cases}
 use Rattle.settings.specs.declared.Settings.{Settings}
 use Rattle.event.specs.Setup.{setup_fit}
@@ -46,7 +46,7 @@ use Rattle.book.specs.Book.{Verdict, Pages, turned, last_off, tallied_by}
 use Rattle.line.proofs.Moves as moves
 use Rattle.line.proofs.Ticks.{hand, sample_goes, run_goes, stop_goes, emergency_goes}
 use Rattle.book.proofs.Pages.{Fine, none, more, part_none}
-use Rattle.claim.proofs.Sheets.{chance_of, beside, aims_of, Back, Page, Sheets, Goes, put_sheet, zero_sheets, quiet, sample-sheets, with_undo_lem, nothing-fit, back-nothing}
+use Rattle.claim.proofs.Sheets.{chance_of, beside, Back, Page, Sheets, Goes, put_sheet, zero_sheets, quiet, sample-sheets, with_undo_lem, nothing-fit, back-nothing}
 
 -- ---- outcomes that are no verdict
 

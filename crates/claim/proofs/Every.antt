@@ -197,7 +197,7 @@ holds_after w e h =
 fresh_fit : FitLine fresh_line
 unfolding fresh_line all_of sorter_ranged sorters_ranged setup_ranged edge_agrees masks_agree setup_agrees last_fit sensor_fit status_fit error_known busy item_fit undo_fit
 fresh_fit =
-    record { code = refl; setup = refl; last = refl; sensor = refl; status = rw all_off_idle; sorters = all_off-fit; foreign = none-fit; item = refl; undo = refl; bench = bench.fresh-fit }
+    record { code = refl; setup = refl; last = refl; sensor = refl; status = rw all_off_idle; sorters = all_off-fit; foreign = none-fit; item = refl; undo = refl; bench = bench.fresh_fit }
 
 blank-fit : record_fit blank ≡ true
 unfolding record_ranged limits_ordered

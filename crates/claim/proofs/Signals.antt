@@ -36,7 +36,6 @@ use Rattle.line.proofs.Accepted.{accepted_tells, sound_tells}
 use Rattle.line.proofs.Facts.{fit_tells}
 use Rattle.line.proofs.Signals.{used_of, tick-counts}
 use Rattle.book.specs.Boxes.{outcome_of}
-use Rattle.claim.specs.Claim.{refusal_in}
 use Rattle.claim.specs.Run.{World, after, run_from}
 use Rattle.claim.specs.RunningTick.{is_running_tick}
 use Rattle.claim.specs.Signals.{taken_by, ended_at, used_up_by, added_up}

@@ -31,7 +31,6 @@ use Rattle.line.specs.Effect.{halted, halting, replied}
 use Rattle.line.specs.Sample.{step1, step2, step3, guarded, from_step3, running_tick, sampled, tick_of}
 use Rattle.line.specs.Command.{ran, stopping, alarmed}
 use Rattle.line.specs.Tallying.{Out, recorded, code_cleared}
-use Rattle.tally.specs.Tally.{is_verdict}
 use Rattle.item.specs.Item.{in_hand}
 use Rattle.line.specs.State.{State, active_of}
 use Rattle.line.specs.Refusal.{refusal_of}

@@ -1,6 +1,6 @@
 -- 02, T-02 "Bench mode": what holds of it over every list of events. What arms and what detects is told from the state before
 -- an event, the event and its reply.
-use Rattle.std.specs.Prelude.{ℕ, ◌≡◌, Bool, true, false, ◌&&◌, ◌||◌, List, [], ◌∷◌, eqb}
+use Rattle.std.specs.Prelude.{◌≡◌, Bool, true, false, ◌&&◌, ◌||◌, List, [], ◌∷◌, eqb}
 use Rattle.std.specs.Int.Signed.{le_z}
 use Rattle.laws.specs.Choice.{within}
 use Rattle.settings.specs.declared.Settings.{Settings}

@@ -8,14 +8,13 @@ use Rattle.line.specs.Line.{fresh_line}
 use Rattle.line.proofs.Facts.{fit_tells}
 use Rattle.claim.specs.Run.{fresh_world, run}
 use Rattle.claim.proofs.Signals.{step_kept, few-after, all-kept, few_always}
-use Rattle.claim.proofs.signals_kept.Statement.{statement}
-use Rattle.claim.proofs.signals_kept.Tie as tie
+use Rattle.claim.proofs.signals_kept.Goals as goal
 
 none-carried : carried fresh_line.foreign ≡ 0
 unfolding fresh_line no_signal carrying carried signals_of waits_of laid
 none-carried = refl
 
-returns : tie.Need-returns
+pub returns : goal.returns
 unfolding run
 returns c =
     record {
@@ -25,6 +24,3 @@ returns c =
       every = λ es. omega (arith, all-kept fresh_world es, none-carried);
       few = λ es. few_always fresh_world es (omega (arith, none-carried));
     }
-
-pub signals-kept-spec : {M : Type 1} → statement M
-signals-kept-spec = tie.close (tie.spec returns)

@@ -1,15 +1,11 @@
 -- `bench_mode` ensures what holds of bench mode over every list. Assumes nothing.
 use Rattle.claim.specs.Run.{run}
 use Rattle.claim.proofs.BenchMode.{two-on-mode, armed_between}
-use Rattle.claim.proofs.bench_mode.Statement.{statement}
-use Rattle.claim.proofs.bench_mode.Tie as tie
+use Rattle.claim.proofs.bench_mode.Goals as goal
 
-returns : tie.Need-returns
+pub returns : goal.returns
 returns c =
     record {
       alone = λ es e h. two-on-mode (run es).state e h;
       once = λ es between first second f s. armed_between (run es) first second between f s;
     }
-
-pub bench-mode-spec : {M : Type 1} → statement M
-bench-mode-spec = tie.close (tie.spec returns)

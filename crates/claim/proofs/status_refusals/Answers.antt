@@ -1,7 +1,7 @@
 -- `status_refusals` ensures why the status refuses, and that a refusal alters nothing. Assumes nothing.
 use mathlib.Core.Path.{◌≡◌, refl, ◌∙◌}
 use mathlib.Core.Logic.{◌≢◌}
-use mathlib.Core.Bool.{Bool, true, false}
+use mathlib.Core.Bool.{true}
 use mathlib.Core.List.{List}
 use Prim.Native.Nat.{ℕ}
 use lib.Dec.{eqb}
@@ -22,8 +22,7 @@ use lib.ListN.{length}
 use Rattle.claim.specs.Claim.{refusal_in}
 use Rattle.claim.proofs.Done.{accepted-done}
 use Rattle.claim.proofs.Every.{no_refusal}
-use Rattle.claim.proofs.status_refusals.Statement.{statement}
-use Rattle.claim.proofs.status_refusals.Tie as tie
+use Rattle.claim.proofs.status_refusals.Goals as goal
 
 module _ (l : Line) (count : ℕ) (a : Settings) (ts : List ℤ) (e : Event) (sound : memory_sound l count a ts e ≡ true) (ranged : event_ranged e ≡ true) where
   running-shown : eqb (refusal_of l count a ts e) status_no ≡ eqb (status_refusal l.status e) status_no
@@ -46,7 +45,7 @@ unaltered s e h =
     (λ z. absurd (h (rw z (no_refusal (accepted s.line a s.tallies e).reply (accepted-done s.line a s.tallies e)))))
     (λ n. rw n refl)
 
-returns : tie.Need-returns
+pub returns : goal.returns
 returns c =
     record {
       running = λ l count a ts e sound ranged. running-shown l count a ts e sound ranged ∙ running_exactly l.status e;
@@ -54,6 +53,3 @@ returns c =
       paused = λ l count a ts e sound ranged. paused-shown l count a ts e sound ranged ∙ paused_exactly l.status e;
       unaltered = unaltered;
     }
-
-pub status-refusals-spec : {M : Type 1} → statement M
-status-refusals-spec = tie.close (tie.spec returns)
