@@ -1,5 +1,5 @@
 -- The lines of a call as they are written: pair by pair from the numbers of the buffer. Assumes nothing.
-use Prim.Native.Nat.{ℕ, zero, suc, ◌+◌, ◌-◌, ◌*◌, ◌≤◌, ◌<◌}
+use Prim.Native.Nat.{ℕ, suc, ◌+◌, ◌-◌, ◌*◌, ◌≤◌, ◌<◌}
 use mathlib.Core.Path.{◌≡◌, refl, sym, ap, ◌∙◌}
 use mathlib.Core.Logic.{◌≢◌}
 use mathlib.Core.List.{List, [], ◌∷◌, ◌++◌, append_assoc, append-nil}
@@ -89,7 +89,7 @@ module _ (vs ts : List ℕ) (a b : ℕ) (before after : List ℕ) (c : Counts) (
   pairs-within =
       let h = accepted vs ts a b (length before) ok in
       let size = ap length g.written ∙ length-append (flat g.pairs) (drop (2 * length g.pairs) before) in
-      (omega (arith, size, length_flat g.pairs, g.counted.paired), omega (arith, h.short, g.counted.verdicts-add))
+      (omega (arith, size, length_flat g.pairs, g.counted.paired), omega (arith, h.short, g.counted.verdicts_add))
 
   lines_are : numbers_text c.pairs after ++ counts_text c ≡ pairs_text g.pairs ++ counts_text c
   lines_are = rw (g.counted.paired, g.written, pairs_text_lem g.pairs (drop (2 * length g.pairs) before)) refl

@@ -1,5 +1,5 @@
 -- What a call prints: each pair as `verdict= signal=`, then `pairs= missing= extra=`, or its refusal. Fields stand as in 01, "Text lines".
-use Rattle.std.specs.Prelude.{ℕ, ◌+◌, ◌*◌, ◌≡◌, List, [], ◌∷◌, ◌++◌, ◌≢◌, length}
+use Rattle.std.specs.Prelude.{ℕ, ◌+◌, ◌*◌, ◌≡◌, List, [], ◌∷◌, ◌++◌, ◌≢◌}
 use Rattle.decimal.specs.Bytes.{bytes}
 use Rattle.decimal.specs.Number.{decimal}
 use Rattle.print.specs.Text.{line_end, field, joined}

@@ -1,0 +1,47 @@
+-- `read_tick` reads a line of one field. Assumes nothing.
+use borrow.Author.Rules.{rules}
+use mathlib.Core.Path.{◌≡◌, ◌∙◌}
+use mathlib.Core.Bool.{true, false}
+use lib.IntN.{pos}
+use lib.Signed.{lt_z}
+use Rattle.laws.proofs.Signed.{back}
+use Rattle.field.proofs.Fields.{number-held}
+use Rattle.exitlog.proofs.Fields.{tick-none, tick-more, tick-below, plain, tick-plain}
+use Rattle.exitlog.proofs.entry.read_tick.Goals as goal
+
+pub returns-in_default : goal.returns-in_default
+returns-in_default c =
+    let a = c.args in
+    tick-none a.key.now a.line.now (rw c.in_default.is at c.read_field.ensures)
+
+pub returns-then-next-line : goal.returns-then-next-line
+returns-then-next-line c =
+    let a = c.args in
+    let v = c.in-Value in
+    tick-more a.key.now a.line.now v.value v.next (number-held _ _ _ (rw v.is at c.read_field.ensures)) c.if-next-line.true
+
+pub returns-then-value-lt0 : goal.returns-then-value-lt0
+returns-then-value-lt0 c =
+    let a = c.args in
+    let v = c.in-Value in
+    let n = number-held _ _ _ (rw v.is at c.read_field.ensures) in
+    let below : lt_z v.value (pos 0) ≡ true = rw (back v.value (search rules)) at c.if-value-lt0.true in
+    tick-below a.key.now a.line.now v.value v.next n c.if-next-line.false below
+
+-- the number has no sign, and nothing stands behind it
+pub exact-requires : goal.exact-requires
+exact-requires c =
+    let a = c.args in
+    let v = c.in-Value in
+    let n = number-held _ _ _ (rw v.is at c.read_field.ensures) in
+    let plainly : lt_z v.value (pos 0) ≡ false = rw (back v.value (search rules)) at c.if-value-lt0.false in
+    plain a.key.now a.line.now v.value v.next n c.if-next-line.false plainly
+
+pub returns : goal.returns
+returns c =
+    let a = c.args in
+    let v = c.in-Value in
+    let n = number-held _ _ _ (rw v.is at c.read_field.ensures) in
+    let plainly : lt_z v.value (pos 0) ≡ false = rw (back v.value (search rules)) at c.if-value-lt0.false in
+    let p = plain a.key.now a.line.now v.value v.next n c.if-next-line.false plainly in
+    c.exact.ensures p ∙ tick-plain a.key.now a.line.now v.value v.next n c.if-next-line.false plainly

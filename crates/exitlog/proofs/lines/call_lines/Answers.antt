@@ -1,0 +1,23 @@
+-- `call_lines` prints what the call answers. Assumes nothing.
+use Rattle.exitlog.proofs.Writing.{pairs-within, paired-lines, refused-line}
+use Rattle.exitlog.proofs.lines.call_lines.Goals as goal
+
+pub put_paired-requires : goal.put_paired-requires
+put_paired-requires c =
+    let a = c.args in
+    let call = c.pair_exits in
+    let e = rw c.in-Paired.is at call.ensures in
+    pairs-within a.verdicts.now a.signals.now a.a a.b a.pairs.now call.new.pairs _ e.0 e.1
+
+pub returns-in-Refused : goal.returns-in-Refused
+returns-in-Refused c =
+    let a = c.args in
+    let e = rw c.in-Refused.is at c.pair_exits.ensures in
+    refused-line a.verdicts.now a.signals.now a.a a.b _ _ e.0 e.1 _ _ _ c.put_refused.ensures
+
+pub returns-in-Paired : goal.returns-in-Paired
+returns-in-Paired c =
+    let a = c.args in
+    let call = c.pair_exits in
+    let e = rw c.in-Paired.is at call.ensures in
+    paired-lines a.verdicts.now a.signals.now a.a a.b a.pairs.now call.new.pairs _ e.0 e.1 _ _ _ c.put_paired.ensures
