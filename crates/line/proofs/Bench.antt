@@ -9,7 +9,7 @@ use lib.Signed.{le_z}
 use Rattle.laws.proofs.Tests.{if_ind, clash, never}
 use Rattle.settings.specs.Grade.{grade_of}
 use Rattle.settings.specs.declared.Settings.{Settings}
-use Rattle.bench.specs.Bench.{ticked_on, disarmed}
+use Rattle.bench.specs.Bench.{ticked_on}
 use Rattle.bench.specs.declared.Bench.{Bench}
 use Rattle.bench.proofs.Grosses.{ticked_armed, disarmed_armed, detects_armed}
 use Rattle.detector.specs.Foreign.{due, oldest_used}
@@ -17,9 +17,9 @@ use Rattle.event.specs.Setup.{is_bench}
 use Rattle.item.specs.declared.Item.TheVariants.{None}
 use Rattle.item.specs.declared.Weighed.{Weighed}
 use Rattle.item.specs.declared.Weighed.TheVariants.{Still, Mean}
-use Rattle.line.specs.Line.{with_foreign, with_item, with_bench}
+use Rattle.line.specs.Line.{with_foreign, with_item}
 use Rattle.line.specs.Verdict.{given, or_crash, verdict_of, judged}
-use Rattle.line.specs.Sample.{on_bench, step4, step5, step6, after_weighing, box_taken, step7, ninth_signal, unless_ninth, running_tick}
+use Rattle.line.specs.Sample.{on_bench, step4, step5, step6, after_weighing, box_taken, ninth_signal, unless_ninth, running_tick}
 use Rattle.line.specs.declared.sample.Tick.{Tick}
 use Rattle.line.specs.declared.line.Line.{Line}
 use Rattle.line.specs.declared.effect.Effect.{Effect}

@@ -20,7 +20,7 @@ use Rattle.item.specs.Item.{in_hand}
 use Rattle.item.specs.declared.Item.TheVariants.{None}
 use Rattle.item.specs.declared.Weighed.{Weighed}
 use Rattle.item.specs.declared.Weighed.TheVariants.{Still, Mean}
-use Rattle.line.specs.Line.{is_running, with_foreign, with_item}
+use Rattle.line.specs.Line.{with_foreign, with_item}
 use Rattle.line.specs.Verdict.{given, or_crash, verdict_of, judged}
 use Rattle.line.specs.Sample.{step4, step5, step6, on_bench, after_weighing, box_taken, step7, ninth_signal, unless_ninth, running_tick}
 use Rattle.line.specs.declared.sample.Tick.{Tick}

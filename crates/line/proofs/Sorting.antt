@@ -1,7 +1,7 @@
 -- What becomes of the sorters on a running tick: in step 4 each ticks, and the verdict given in step 6 or 7, if there is one,
 -- enters their queues. Assumes nothing.
 use mathlib.Core.Path.{◌≡◌, refl, sym, ◌∙◌}
-use mathlib.Core.Bool.{true, ◌&&◌}
+use mathlib.Core.Bool.{true}
 use Prim.Native.Nat.{ℕ}
 use lib.IntN.{ℤ, pos, ◌-ℤ◌}
 use lib.Signed.{le_z}
@@ -17,7 +17,7 @@ use Rattle.item.specs.Item.{in_hand}
 use Rattle.item.specs.declared.Item.TheVariants.{None}
 use Rattle.item.specs.declared.Weighed.{Weighed}
 use Rattle.item.specs.declared.Weighed.TheVariants.{Still, Mean}
-use Rattle.line.specs.Line.{is_running, with_foreign, with_item}
+use Rattle.line.specs.Line.{with_foreign, with_item}
 use Rattle.line.specs.Verdict.{sorted_for, stopped_for, given, or_crash, verdict_of, judged}
 use Rattle.line.specs.Sample.{step4, step5, step6, on_bench, after_weighing, box_taken, step7, ninth_signal, unless_ninth, running_tick}
 use Rattle.line.specs.declared.sample.Tick.{Tick}
