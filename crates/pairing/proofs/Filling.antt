@@ -7,7 +7,7 @@ use lib.ListN.{length, get_or, drop, set, length-append, length-set, drop_of_len
 use lib.Seq.{drop-cons, set_at, append_snoc}
 use Rattle.lists.proofs.Past.{cut}
 use Rattle.pairing.specs.Pairing.{Pair, flat}
-use Rattle.pairing.specs.Sweep.{Sweep, no_verdict, no_signal_lem, early, late, pair, Filled}
+use Rattle.pairing.specs.Sweep.{Sweep, no_verdict, no_signal, early, late, pair, Filled}
 
 length_flat : (ps : List Pair) → length (flat ps) ≡ 2 * length ps
 length_flat [] = refl
@@ -58,7 +58,7 @@ module _ (vs ts : List ℕ) (a b : ℕ) (before after : List ℕ) (i j k : ℕ) 
   done-signals h =
       record {
         pairs = g.done;
-        sweep = rw append-nil at (g.sweep [] (rw (drop_of_length-le ts h) no_signal_lem));
+        sweep = rw append-nil at (g.sweep [] (rw (drop_of_length-le ts h) no_signal));
         counted = sym g.counted;
         written = rw g.counted g.written;
       }

@@ -6,14 +6,14 @@ use Prim.Native.Nat.{ℕ, ◌+◌, ◌<◌}
 use native.Mathlib.Omega.{arith}
 use lib.ListN.{length}
 use Rattle.pairing.specs.Pairing.{Pair, none, more, Fits, Pairing, Ordered, verdicts_of, signals_of, left_over}
-use Rattle.pairing.specs.Sweep.{Sweep, no_verdict, no_signal_lem, early, late, pair}
+use Rattle.pairing.specs.Sweep.{Sweep, no_verdict, no_signal, early, late, pair}
 use Rattle.pairing.proofs.Entries.{every_map, every-both, every_in, every_of, stands-first, stands_later, Sorted, left-all, left-none, left-more, left_used}
 use Rattle.pairing.proofs.Exchange.{AtMost, none-without-verdicts, none-without-signals, without-signal, without-verdict, with_pair}
 
 -- no other pairing has more pairs
 pub sweep-largest : {a b : ℕ} {vs ts : List ℕ} {ps : List Pair} → Sweep a b vs ts ps → Sorted vs → Sorted ts → AtMost vs ts a b (length ps)
 sweep-largest {a} {b} (no_verdict {ts = ts}) s r = none-without-verdicts ts a b
-sweep-largest {a} {b} (no_signal_lem {vs = vs}) s r = none-without-signals vs a b
+sweep-largest {a} {b} (no_signal {vs = vs}) s r = none-without-signals vs a b
 sweep-largest {a} {b} (early {v = v} {t = t} {vs = vs} {ts = ts} {ps = ps} h d) s r =
     without-signal (v ∷ vs) ts a b (length ps) t (more h (every_map (λ x l. omega arith) s.0)) (sweep-largest d s r.1)
 sweep-largest {a} {b} (late {v = v} {t = t} {vs = vs} {ts = ts} {ps = ps} h d) s r =
@@ -41,7 +41,7 @@ pub record Good (a b : ℕ) (vs ts : List ℕ) (ps : List Pair) : Type 0 where
 pub sweep-good : {a b : ℕ} {vs ts : List ℕ} {ps : List Pair} → Sweep a b vs ts ps → Sorted vs → Sorted ts → Good a b vs ts ps
 sweep-good (no_verdict {ts = ts}) s r =
     record { pairing = record { each = none; once = tt }; ordered = tt; verdicts_add = omega (arith, left-none []); signals_add = omega (arith, left-all ts) }
-sweep-good (no_signal_lem {vs = vs}) s r =
+sweep-good (no_signal {vs = vs}) s r =
     record { pairing = record { each = none; once = tt }; ordered = tt; verdicts_add = omega (arith, left-all vs); signals_add = omega (arith, left-none []) }
 sweep-good {a} {b} (early {v = v} {t = t} {vs = vs} {ts = ts} {ps = ps} h d) s r =
     let g = sweep-good d s r.1 in

@@ -5,7 +5,7 @@ use Rattle.pairing.specs.Pairing.{Pair, flat}
 -- the earliest verdict left and the earliest signal left: the signal is too early for the verdict, or too late, or they are a pair
 pub data Sweep (a b : ℕ) : List ℕ → List ℕ → List Pair → Type 0 where
   no_verdict : {ts : List ℕ} → Sweep a b [] ts []
-  no_signal_lem : {vs : List ℕ} → Sweep a b vs [] []
+  no_signal : {vs : List ℕ} → Sweep a b vs [] []
   early : {v t : ℕ} {vs ts : List ℕ} {ps : List Pair} → t < v + a → Sweep a b (v ∷ vs) ts ps → Sweep a b (v ∷ vs) (t ∷ ts) ps
   late : {v t : ℕ} {vs ts : List ℕ} {ps : List Pair} → v + b < t → Sweep a b vs (t ∷ ts) ps → Sweep a b (v ∷ vs) (t ∷ ts) ps
   pair : {v t : ℕ} {vs ts : List ℕ} {ps : List Pair} → v + a ≤ t → t ≤ v + b → Sweep a b vs ts ps → Sweep a b (v ∷ vs) (t ∷ ts) (record { verdict = v; signal = t } ∷ ps)

@@ -44,7 +44,7 @@ use Rattle.stepsix.specs.StepSix.{Averages, weighing, fed}
 -- ---- no foreign signal, and all queues empty
 
 record Clear (l : Line) : Type 0 where
-  no_signal_lem : carried l.foreign ≡ 0
+  no_signal : carried l.foreign ≡ 0
   queues : all_of (λ (s : Sorter). is_empty s.queue) l.sorters ≡ true
 
 none_of : (l : List ℕ) → length l ≡ 0 → l ≡ []
@@ -79,7 +79,7 @@ unfolding judged verdict_of given outcome_at
 judged-is l s m c =
     by_cases (le_z m s.nearzero)
     (λ h. rw h)
-    (λ h. rw (h, not_due l.foreign c.no_signal_lem) (no_crash l (grade_of s (m -ℤ s.tare)) c))
+    (λ h. rw (h, not_due l.foreign c.no_signal) (no_crash l (grade_of s (m -ℤ s.tare)) c))
 
 -- ---- one sample
 
@@ -127,7 +127,7 @@ module _ (l : Line) (s : Settings) (x z : ℤ) (w : is_weight x ≡ true) where
   last e g c =
       ap (λ (i : Item). (after_weighing l s (weighed i l.setup x)).outcome) e
       ∙ ap (λ (m : Weighed). (after_weighing l s m).outcome) (weighed-is l.setup 1 z x g w)
-      ∙ judged-is (with_item l None) s (rounded (z +ℤ x) l.setup.ta) (record { no_signal_lem = c.no_signal_lem; queues = c.queues })
+      ∙ judged-is (with_item l None) s (rounded (z +ℤ x) l.setup.ta) (record { no_signal = c.no_signal; queues = c.queues })
 
 -- ---- from a sum so far
 
@@ -144,7 +144,7 @@ from n s x (y ∷ xs) l z w e t g c =
     let b = both (is_weight x) (all_weights (y ∷ xs)) w in
     let m = sum_of (y ∷ xs) in
     ap (λ (q : Line). (fed q s (y ∷ xs)).outcome) (added l s x z b.0 (length xs) e (rw t g))
-    ∙ from n s y xs (with_item l (Averaging (suc (length xs)) (z +ℤ x))) (z +ℤ x) b.1 refl t (left_less n (length xs) z x g b.0) (record { no_signal_lem = c.no_signal_lem; queues = c.queues })
+    ∙ from n s y xs (with_item l (Averaging (suc (length xs)) (z +ℤ x))) (z +ℤ x) b.1 refl t (left_less n (length xs) z x g b.0) (record { no_signal = c.no_signal; queues = c.queues })
     ∙ ap (λ (q : ℤ). outcome_at s (rounded q n)) (+ℤ_assoc z x m ∙ ap (λ (q : ℤ). z +ℤ q) (+ℤ_comm x m))
 
 pub same : (l : Line) (s : Settings) (xs : List ℤ) → count_fits (length xs) ≡ true → all_weights xs ≡ true → Averages l (length xs)
@@ -154,7 +154,7 @@ same l s (x ∷ xs) h w a =
     let n = length (x ∷ xs) in
     let b = both (leb 1 n) (leb n most_samples) h in
     let m = leb-true n most_samples b.1 in
-    from n s x xs l (pos 0) w a.item a.ta (record { some = omega arith; within = omega arith; few = m; size = omega arith }) (record { no_signal_lem = a.no_signal_lem; queues = a.queues })
+    from n s x xs l (pos 0) w a.item a.ta (record { some = omega arith; within = omega arith; few = m; size = omega arith }) (record { no_signal = a.no_signal; queues = a.queues })
     ∙ ap (λ (q : ℤ). outcome_at s (rounded q n)) (+ℤ_idl (sum_of (x ∷ xs)))
 
 -- ---- a line that averages n samples: the fresh one, with ta and its item
@@ -181,4 +181,4 @@ setup_with n =
 
 pub a-line : (n : ℕ) → (l : Line) × Averages l n
 unfolding setup_with fresh_line no_signal carrying carried signals_of laid waits_of waiting is_empty all_off sorter_off all_of
-a-line n = (with_item (with_setup fresh_line (setup_with n)) (Averaging n (pos 0)), record { item = refl; ta = refl; no_signal_lem = refl; queues = refl })
+a-line n = (with_item (with_setup fresh_line (setup_with n)) (Averaging n (pos 0)), record { item = refl; ta = refl; no_signal = refl; queues = refl })

@@ -19,7 +19,7 @@ use Rattle.possible.specs.Answer.{count_fits, all_weights}
 pub record Averages (l : Line) (n : ℕ) : Type 0 where
   pub item : l.item ≡ Averaging n (pos 0)
   pub ta : l.setup.ta ≡ n
-  pub no_signal_lem : carried l.foreign ≡ 0
+  pub no_signal : carried l.foreign ≡ 0
   pub queues : all_of (λ (s : Sorter). is_empty s.queue) l.sorters ≡ true
 
 -- a sample with this gross, and nothing else in it
