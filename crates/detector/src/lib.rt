@@ -41,6 +41,7 @@ impl Foreign {
     }
 
     // With none carried no place is copied.
+    #[tactic(auto, unfolding(crate::specs::Foreign::delays_fallen))]
     fn delays_fallen(self) -> Foreign
         ensures { result ≡ delays_fallen self }
     {
@@ -74,6 +75,7 @@ impl Foreign {
     }
 
     // A running tick: all delays fall, then a change 0 to 1 is looked at.
+    #[tactic(auto, unfolding(crate::specs::Foreign::foreign_ticked))]
     pub fn ticked(self, rises: bool, tf: u64) -> Foreign
         ensures { result ≡ foreign_ticked self rises tf }
     {
@@ -85,6 +87,7 @@ impl Foreign {
     }
 
     // One has ended: the next verdict is foreign.
+    #[tactic(auto, using(crate::proofs::Signals::due_here))]
     pub fn due(self) -> bool
         ensures { result ≡ due self }
     {

@@ -24,6 +24,7 @@ fn ticked_as(mut sorter: Sorter, setup: SorterSetup) -> Sorter
 }
 
 // With its bit in the mask a verdict enters the queue, if fewer than eight wait.
+#[tactic(auto, unfolding(crate::specs::Sorters::entered))]
 fn entered(sorter: Sorter, setup: SorterSetup, verdict: u64) -> Sorter
     ensures { result ≡ entered verdict sorter setup }
 {
@@ -34,12 +35,14 @@ fn entered(sorter: Sorter, setup: SorterSetup, verdict: u64) -> Sorter
 }
 
 // The verdict's bit is in the mask and the queue is full.
+#[tactic(auto, unfolding(crate::specs::Sorters::blocks))]
 fn blocks(sorter: Sorter, setup: SorterSetup, verdict: u64) -> bool
     ensures { result ≡ blocks verdict sorter setup }
 {
     mask::has(setup.sort, verdict) & sorter.full()
 }
 
+#[tactic(auto, unfolding(crate::specs::Sorters::on_bit))]
 fn on_bit(sorter: Sorter) -> u64
     ensures { (result ≡ on_bit sorter) × (result ≤ 1) }
 {

@@ -2,7 +2,7 @@
 use borrow.Author.Rules.{rules}
 use mathlib.Core.Bool.{false}
 use mathlib.Core.List.{map}
-use mathlib.Core.Path.{◌≡◌, refl, sym, ◌∙◌}
+use mathlib.Core.Path.{◌≡◌, refl}
 use native.Mathlib.Omega.{arith}
 use lib.ListN.{length, take, length-map}
 use lib.Seq.{length-take-le}
@@ -12,10 +12,6 @@ use Rattle.queue.specs.Queue.{places, laid, is_empty}
 use Rattle.detector.specs.Foreign.{carrying, delays_fallen}
 use Rattle.detector.proofs.Signals.{counted_is, few_are}
 use Rattle.detector.proofs.Foreign.delays_fallen.Goals as goal
-
-pub returns-then-is_empty : goal.returns-then-is_empty
-unfolding delays_fallen
-returns-then-is_empty c = rw (sym c.is_empty.ensures ∙ c.if-is_empty.true)
 
 pub loop-i-init : goal.loop-i-init
 loop-i-init c =
@@ -34,7 +30,7 @@ returns c =
     let l = c.loop-i in
     let w = c.waiting-n in
     let f = c.args.self in
-    let e : is_empty f.signals ≡ false = sym c.is_empty.ensures ∙ c.if-is_empty.false in
+    let e : is_empty f.signals ≡ false = cc in
     let n : w.result ≡ length (map fallen (take w.result f.signals.waits)) =
     omega (arith, length-map (take w.result f.signals.waits) fallen, length-take-le w.result f.signals.waits (omega arith)) in
     let all : l.i ≡ w.result = omega arith in

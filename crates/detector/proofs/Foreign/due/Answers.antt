@@ -1,8 +1,9 @@
 -- `due`: of the signals, those left decide. Assumes nothing.
 use borrow.Author.Rules.{rules}
-use borrow.Author.Tests.{eq-eqb, ne_eqb}
+use borrow.Author.Tests.{ne_eqb}
 use mathlib.Core.Path.{◌≡◌, refl, sym, ap, ◌∙◌}
 use native.Mathlib.Omega.{arith}
+use lib.ListN.{get_or}
 use Rattle.lists.specs.Each.{any_of}
 use Rattle.lists.proofs.Each.{any_next, any_end}
 use Rattle.time.specs.Time.{ended}
@@ -14,20 +15,12 @@ loop-i-init c =
     let f = c.args.self in
     (search rules, few_are f _ c.waiting-n.ensures (search rules), omega arith, refl)
 
-pub returns-then-delays-i-eq0 : goal.returns-then-delays-i-eq0
-returns-then-delays-i-eq0 c =
-    let l = c.loop-i in
-    let w = c.waiting-n in
-    let f = c.args.self in
-    let next = any_next ended w.result f.signals.waits l.i 0 (omega arith) (omega arith) (eq-eqb _ 0 c.if-delays-i-eq0.true) in
-    sym (due_any f ∙ ap (any_of ended) (sym (counted_is f w.result w.ensures)) ∙ l.invariant.3 ∙ next)
-
 pub loop-i-preserved : goal.loop-i-preserved
 loop-i-preserved c =
     let l = c.loop-i in
     let w = c.waiting-n in
     let f = c.args.self in
-    let next = any_next ended w.result f.signals.waits l.i 0 (omega arith) (omega arith) (ne_eqb _ 0 c.if-delays-i-eq0.false) in
+    let next = any_next ended w.result f.signals.waits l.i 0 (omega arith) (omega arith) (ne_eqb (get_or f.signals.waits l.i 0) 0 (λ e. omega arith)) in
     (l.invariant.0, l.invariant.1, omega arith, l.invariant.3 ∙ next)
 
 pub returns : goal.returns
