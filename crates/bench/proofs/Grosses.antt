@@ -12,7 +12,7 @@ use lib.Signed.{le_z, lt_z}
 use lib.ListN.{length, get_or, set, take, drop, length-take}
 use lib.Seq.{take-append_seam, take-take, take_all, take-suc, length-take-le}
 use borrow.Author.Tests.{le-leb, lt-leb, ltb-true, ltb-false, not-true}
-use Rattle.laws.specs.Choice.{if◌then◌else◌}
+use Rattle.laws.specs.Choice.{when◌then◌else◌}
 use Rattle.laws.proofs.Tests.{both, and_intro, by_cases, if_ind, never}
 use Rattle.weight.specs.Weight.{is_weight}
 use Rattle.lists.specs.Each.{all_of, folded}
@@ -28,7 +28,7 @@ unfolding grosses_of keeping
 grosses_laid armed l = take-append_seam l _
 
 -- beside one more, all of fewer than ten stay, and the newest nine of ten
-pub newest : (n : ℕ) (l : List ℤ) → take 9 (take n l) ≡ take (if ltb n last_ticks then n else last_ticks - 1) l
+pub newest : (n : ℕ) (l : List ℤ) → take 9 (take n l) ≡ take (when ltb n last_ticks then n else last_ticks - 1) l
 newest n l =
     by_cases (ltb n last_ticks)
     (λ h. rw h (take_all 9 (take n l) (omega (arith, length-take n l, ltb-true n last_ticks h))))
@@ -95,7 +95,7 @@ fresh_fit = laid-fit 0 [] (omega arith) refl
 
 pub begun-fit : (b : Bench) (stopped : Bool) → bench_fit (begun b stopped) ≡ true
 unfolding begun all_of
-begun-fit b stopped = laid-fit (if stopped then 1 else b.armed) [] (omega arith) refl
+begun-fit b stopped = laid-fit (when stopped then 1 else b.armed) [] (omega arith) refl
 
 take_weights : (k : ℕ) (l : List ℤ) → all_of is_weight l ≡ true → all_of is_weight (take k l) ≡ true
 unfolding all_of

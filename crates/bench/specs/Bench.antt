@@ -1,7 +1,7 @@
 -- 02, T-02 "Bench mode": what is kept of the running ticks, what arms the line, and when a box lies still on the plate.
 use Rattle.std.specs.Prelude.{ℕ, Bool, ◌&&◌, not, List, [], ◌∷◌, eqb, leb, ℤ, pos, ◌-ℤ◌, length, take}
 use Rattle.std.specs.Int.Signed.{le_z, lt_z}
-use Rattle.laws.specs.Choice.{if◌then◌else◌}
+use Rattle.laws.specs.Choice.{when◌then◌else◌}
 use Rattle.lists.specs.Each.{all_of, folded}
 use Rattle.lists.specs.Places.{in_places}
 use Rattle.weight.specs.Weight.{is_weight}
@@ -32,7 +32,7 @@ with_armed b armed = record { armed = armed; grosses = b.grosses; n = b.n }
 
 -- an accepted run: "A run accepted from stopped arms it"; the grosses are those "since the last accepted run"
 unfoldable pub begun : Bench → Bool → Bench
-begun b stopped = keeping (if stopped then 1 else b.armed) []
+begun b stopped = keeping (when stopped then 1 else b.armed) []
 
 -- one gross more, of which "the last 10" are kept
 unfoldable pub pushed : Bench → ℤ → Bench
@@ -41,13 +41,13 @@ pushed b gross = keeping b.armed (take last_ticks (gross ∷ grosses_of b))
 -- a running tick is one of the last, and one "with gross ≤ nearzero" arms
 unfoldable pub ticked_on : Bench → ℤ → ℤ → Bench
 ticked_on b gross nearzero =
-    if le_z gross nearzero then with_armed (pushed b gross) 1 else pushed b gross
+    when le_z gross nearzero then with_armed (pushed b gross) 1 else pushed b gross
 
 abbrev pub larger : ℤ → ℤ → ℤ
-larger x y = if lt_z x y then y else x
+larger x y = when lt_z x y then y else x
 
 abbrev pub smaller : ℤ → ℤ → ℤ
-smaller x y = if lt_z y x then y else x
+smaller x y = when lt_z y x then y else x
 
 -- the largest and the smallest of a list
 abbrev pub largest_of : List ℤ → ℤ

@@ -5,7 +5,7 @@
 ghost use Rattle.std.specs.Prelude.{◌≡◌, true, ◌-ℤ◌, ◌-◌, ltb};
 ghost use Rattle.lists.specs.Each.{all_of};
 ghost use Rattle.weight.specs.Weight.{is_weight};
-ghost use Rattle.laws.specs.Choice.{if◌then◌else◌};
+ghost use Rattle.laws.specs.Choice.{when◌then◌else◌};
 ghost use Rattle.bench.specs.Bench.{last_ticks, fresh_bench, with_armed, begun, pushed, ticked_on, larger, smaller, largest_of, smallest_of, steady, detects, disarmed, bench_fit};
 
 use weight::is_weight;
@@ -94,7 +94,7 @@ impl Bench {
 
     // How many stay beside one more: all but the oldest of ten.
     fn staying(self) -> u64
-        ensures { result ≡ (if ltb self.n last_ticks then self.n else last_ticks - 1) }
+        ensures { result ≡ (when ltb self.n last_ticks then self.n else last_ticks - 1) }
     {
         if self.n < Bench::TICKS {
             return self.n;

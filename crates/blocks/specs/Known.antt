@@ -1,13 +1,13 @@
 -- What a refill takes from a reader, where the bytes that the reader has left are known.
 use Rattle.std.specs.Prelude.{ℕ, ◌≡◌, List, [], Option, length, drop}
 use Rattle.std.specs.Io.KnownBytes.{Consumes, IsAtEnd}
-use Rattle.laws.specs.Choice.{if◌then◌else◌}
+use Rattle.laws.specs.Choice.{when◌then◌else◌}
 use Rattle.blocks.specs.Left.{last_of, bytes_left}
 use Rattle.blocks.specs.declared.left.Left.{Left}
 
 -- the bytes that were read behind those that are held: none once no more will come
 abbrev pub read_bytes : List ℕ → Left → List ℕ → List ℕ
-read_bytes held l input = if last_of l then [] else drop (length held) (bytes_left l input)
+read_bytes held l input = when last_of l then [] else drop (length held) (bytes_left l input)
 
 -- the reader has given these; where the input has ended it has no more
 pub record Drawn (before after : Option (List ℕ)) (held : List ℕ) (l : Left) (input : List ℕ) : Type 0 where

@@ -1,6 +1,6 @@
 -- What is left of the input in a buffer, and what a read puts behind it. Of a line of text that has begun the longest line and one byte more are kept: a longer one is refused whatever it holds.
 use Rattle.std.specs.Prelude.{ℕ, zero, suc, ◌+◌, ◌≤◌, ◌<◌, ◌≡◌, Bool, not, List, [], ◌∷◌, ◌++◌, eqb, leb, ltb, ℤ, pos, negsuc, length, take, drop, Result, Ok, Err}
-use Rattle.laws.specs.Choice.{if◌then◌else◌}
+use Rattle.laws.specs.Choice.{when◌then◌else◌}
 use Rattle.decimal.specs.Bytes.{lf}
 use Rattle.text.specs.Read.{longest_line}
 use Rattle.blocks.specs.declared.left.Left.{Left}
@@ -11,11 +11,11 @@ kept_bytes = longest_line + 1
 
 -- how much is kept of a line so long
 abbrev pub kept_length : ℕ → ℕ
-kept_length n = if ltb n kept_bytes then n else kept_bytes
+kept_length n = when ltb n kept_bytes then n else kept_bytes
 
 -- the smaller of two numbers
 abbrev pub least_of : ℕ → ℕ → ℕ
-least_of a b = if ltb a b then a else b
+least_of a b = when ltb a b then a else b
 
 -- what `read` answers, as one number: how many bytes it read; less than 0 where it failed
 abbrev pub answer : {E : Type 0} → Result ℕ E → ℤ
@@ -45,7 +45,7 @@ bytes_left l input = drop l.start (take l.end input)
 
 -- without the first n of them
 abbrev pub past_of : Left → ℕ → Left
-past_of l n = record { start = if leb (l.start + n) l.end then l.start + n else l.end; end = l.end; over = l.over }
+past_of l n = record { start = when leb (l.start + n) l.end then l.start + n else l.end; end = l.end; over = l.over }
 
 -- the bytes that are held stay, and `read` puts as many behind them as it answers
 pub record ReadBehind (before : List ℕ) (held : ℕ) (l : Left) (after : List ℕ) : Type 0 where
@@ -69,7 +69,7 @@ pub record Filled (held : List ℕ) (l : Left) (input : List ℕ) : Type 0 where
   pub counted : length new ≡ count_of got
   pub order : l.start ≤ l.end
   pub within : l.end ≤ length input
-  pub bytes : bytes_left l input ≡ held ++ (if last_of l then at_end held else new)
+  pub bytes : bytes_left l input ≡ held ++ (when last_of l then at_end held else new)
 
 -- what a refill makes of the bytes left in a buffer
 pub record Refilled (l : Left) (before : List ℕ) (r : Left) (after : List ℕ) : Type 0 where

@@ -10,7 +10,7 @@ use lib.IntN.{ℤ, nat_abs, ◌+ℤ◌}
 use lib.ListN.{length}
 use lib.Signed.{lt_z}
 use borrow.Author.Tests.{leb-true, le-leb, eq-eqb, ne_eqb}
-use Rattle.laws.specs.Choice.{if◌then◌else◌, within}
+use Rattle.laws.specs.Choice.{when◌then◌else◌, within}
 use Rattle.weight.specs.Weight.{is_weight}
 use Rattle.laws.proofs.Tests.{and_intro, if_ind, by_cases}
 use Rattle.laws.proofs.Signed.{abs_add}
@@ -52,12 +52,12 @@ from p n s q a b =
 same_from : (p : List Verdict) (n n' : ℕ) (s : ℤ) (q : ℕ) (a a' b b' : ℤ) → n ≡ n' → a ≡ a' → b ≡ b' → from p n s q a b ≡ from p n' s q a' b'
 same_from p n n' s q a a' b b' e f g = rw (e, f, g)
 
-largest-more : (x : ℤ) (xs : List ℤ) → largest_of (x ∷ xs) ≡ (if eqb (length xs) 0 then x else (if lt_z (largest_of xs) x then x else largest_of xs))
+largest-more : (x : ℤ) (xs : List ℤ) → largest_of (x ∷ xs) ≡ (when eqb (length xs) 0 then x else (when lt_z (largest_of xs) x then x else largest_of xs))
 unfolding largest_from
 largest-more x [] = refl
 largest-more x (y ∷ ys) = rw (ne_eqb (suc (length ys)) 0 (λ h. omega arith))
 
-smallest-more : (x : ℤ) (xs : List ℤ) → smallest_of (x ∷ xs) ≡ (if eqb (length xs) 0 then x else (if lt_z x (smallest_of xs) then x else smallest_of xs))
+smallest-more : (x : ℤ) (xs : List ℤ) → smallest_of (x ∷ xs) ≡ (when eqb (length xs) 0 then x else (when lt_z x (smallest_of xs) then x else smallest_of xs))
 unfolding smallest_from
 smallest-more x [] = refl
 smallest-more x (y ∷ ys) = rw (ne_eqb (suc (length ys)) 0 (λ h. omega arith))
@@ -71,15 +71,15 @@ page_more v p = go (within 1 5 v.outcome) refl
 
     Goal : Bool → Type 0
     Goal b =
-        from (v ∷ p) (length (if b then v.net ∷ xs else xs)) (sum_of (if b then v.net ∷ xs else xs)) (squares_of (if b then v.net ∷ xs else xs))
-        (largest_of (if b then v.net ∷ xs else xs)) (smallest_of (if b then v.net ∷ xs else xs))
-        ≡ (if b then weighed_with (counted_with (tally_of_page p) v.outcome) v.net else counted_with (tally_of_page p) v.outcome)
+        from (v ∷ p) (length (when b then v.net ∷ xs else xs)) (sum_of (when b then v.net ∷ xs else xs)) (squares_of (when b then v.net ∷ xs else xs))
+        (largest_of (when b then v.net ∷ xs else xs)) (smallest_of (when b then v.net ∷ xs else xs))
+        ≡ (when b then weighed_with (counted_with (tally_of_page p) v.outcome) v.net else counted_with (tally_of_page p) v.outcome)
 
     go : (b : Bool) → within 1 5 v.outcome ≡ b → Goal (within 1 5 v.outcome)
     go true e =
         rw e (same_from (v ∷ p) (suc (length xs)) (length xs + 1) (sum_of xs +ℤ v.net) (squares_of xs + nat_abs v.net * nat_abs v.net)
-        (largest_of (v.net ∷ xs)) (if eqb (length xs) 0 then v.net else (if lt_z (largest_of xs) v.net then v.net else largest_of xs))
-        (smallest_of (v.net ∷ xs)) (if eqb (length xs) 0 then v.net else (if lt_z v.net (smallest_of xs) then v.net else smallest_of xs))
+        (largest_of (v.net ∷ xs)) (when eqb (length xs) 0 then v.net else (when lt_z (largest_of xs) v.net then v.net else largest_of xs))
+        (smallest_of (v.net ∷ xs)) (when eqb (length xs) 0 then v.net else (when lt_z v.net (smallest_of xs) then v.net else smallest_of xs))
         (omega arith) (largest-more v.net xs) (smallest-more v.net xs))
     go false e = rw e refl
 
@@ -99,7 +99,7 @@ unfolding tally_of_page count_of
 page_total none = refl
 page_total (more {v} {p} h f) = omega (arith, page_total f, ones v.outcome h.outcome)
 
-length_if : (b : Bool) (x : ℤ) (xs : List ℤ) → length (if b then x ∷ xs else xs) ≡ length xs + (if b then 1 else 0)
+length_if : (b : Bool) (x : ℤ) (xs : List ℤ) → length (when b then x ∷ xs else xs) ≡ length xs + (when b then 1 else 0)
 length_if true x xs = omega arith
 length_if false x xs = omega arith
 
@@ -149,7 +149,7 @@ smallest-weight (more {x} h (more {x = y} {xs = ys} g w)) =
     if_ind (λ (z : ℤ). is_weight z ≡ true) (lt_z x (smallest_from y ys)) _ _ (λ _. h) (λ _. smallest-weight (more g w))
 
 -- "0 at n = 0"
-ends_zero : (xs : List ℤ) → (if eqb (length xs) 0 then eqb (nat_abs (largest_of xs)) 0 && eqb (nat_abs (smallest_of xs)) 0 else true) ≡ true
+ends_zero : (xs : List ℤ) → (when eqb (length xs) 0 then eqb (nat_abs (largest_of xs)) 0 && eqb (nat_abs (smallest_of xs)) 0 else true) ≡ true
 ends_zero [] = refl
 ends_zero (x ∷ xs) = rw (ne_eqb (suc (length xs)) 0 (λ h. omega arith))
 
@@ -208,7 +208,7 @@ module _ (v : Verdict) (p : List Verdict) where
   other-more : within 1 5 v.outcome ≡ false → histogram (v ∷ p) ≡ histogram p
   other-more n = tab-same 21 (λ (k : ℕ). counted (in_class k) (v ∷ p)) (λ (k : ℕ). counted (in_class k) p) (none_more n)
 
-  histogram-more : histogram (v ∷ p) ≡ (if within 1 5 v.outcome then one_more (histogram p) class else histogram p)
+  histogram-more : histogram (v ∷ p) ≡ (when within 1 5 v.outcome then one_more (histogram p) class else histogram p)
   histogram-more =
       if_ind (λ (l : List ℕ). histogram (v ∷ p) ≡ l) (within 1 5 v.outcome) (one_more (histogram p) class) (histogram p) graded-more other-more
 

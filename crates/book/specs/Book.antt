@@ -1,6 +1,6 @@
 -- 01, "The book of demand 3 is fed only the events and their replies." Nothing here names a line, a tally or the memory.
 use Rattle.std.specs.Prelude.{ℕ, Bool, true, false, ◌&&◌, not, List, [], ◌∷◌, eqb, ltb, ℤ, pos, length}
-use Rattle.laws.specs.Choice.{if◌then◌else◌}
+use Rattle.laws.specs.Choice.{when◌then◌else◌}
 use Rattle.event.specs.declared.Event.{Event}
 use Rattle.event.specs.declared.Event.TheVariants.{Sample, Run, Stop, Emergency, Recall, Cancel, ClearCode, ClearAll, ErrorReset, NoOperation, Setup, Store}
 use Rattle.tally.specs.Tally.{tally_limit, is_verdict}
@@ -36,11 +36,11 @@ first_book = record { code = 0; pages = λ _. []; chance = false; targets = λ _
 
 -- the pages with code's page anew
 abbrev pub turned : Pages → ℕ → List Verdict → Pages
-turned f code p k = if eqb k code then p else f k
+turned f code p k = when eqb k code then p else f k
 
 -- the targets with code's anew
 abbrev pub aimed : (ℕ → ℤ) → ℕ → ℤ → ℕ → ℤ
-aimed f code target k = if eqb k code then target else f k
+aimed f code target k = when eqb k code then target else f k
 
 -- "A verdict (outcome 1 to 8) is put last on the active page and gives a chance, if fewer than 999,999 are there; else the chance ends."
 unfoldable pub has_place : Book → Bool
@@ -48,7 +48,7 @@ has_place b = ltb (length (b.pages b.code)) tally_limit
 
 unfoldable pub entered : Book → Verdict → Book
 entered b v =
-    if has_place b then record { code = b.code; pages = turned b.pages b.code (v ∷ b.pages b.code); chance = true; targets = b.targets }
+    when has_place b then record { code = b.code; pages = turned b.pages b.code (v ∷ b.pages b.code); chance = true; targets = b.targets }
     else record { code = b.code; pages = b.pages; chance = false; targets = b.targets }
 
 -- "takes the last one, if any, off"
@@ -78,12 +78,12 @@ commanded b (Store c s) = record { code = b.code; pages = b.pages; chance = b.ch
 unfoldable pub fed : Book → Event → Reply → Book
 fed b e (Refused number input) = b
 fed b e (Done d) =
-    if is_verdict d.outcome then entered b (record { outcome = d.outcome; net = d.net; target = b.targets b.code }) else commanded b e
+    when is_verdict d.outcome then entered b (record { outcome = d.outcome; net = d.net; target = b.targets b.code }) else commanded b e
 
 -- "Tallied is 1 exactly when a verdict was put on a page"
 unfoldable pub tallied_by : Book → Reply → ℕ
 tallied_by b (Refused number input) = 0
-tallied_by b (Done d) = if is_verdict d.outcome && has_place b then 1 else 0
+tallied_by b (Done d) = when is_verdict d.outcome && has_place b then 1 else 0
 
 -- the book of what has been said; the last turn stands first
 unfoldable pub book_of : List Turn → Book

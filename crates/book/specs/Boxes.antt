@@ -1,6 +1,6 @@
 -- 01, "For demand 3, over the replies (refused: detected and outcome 0)": the balance of the boxes.
 use Rattle.std.specs.Prelude.{ℕ, ◌+◌, ◌&&◌, ◌||◌, not, List, [], ◌∷◌, eqb}
-use Rattle.laws.specs.Choice.{if◌then◌else◌, within, bit}
+use Rattle.laws.specs.Choice.{when◌then◌else◌, within, bit}
 use Rattle.event.specs.declared.reply.Reply.{Reply}
 use Rattle.event.specs.declared.reply.Reply.TheVariants.{Refused, Done}
 use Rattle.book.specs.Book.{Turn}
@@ -37,5 +37,5 @@ outcomes_in o h = sum_over (λ r. bit (eqb (outcome_of r) o)) h
 unfoldable pub in_hand_after : List Turn → ℕ
 in_hand_after [] = 0
 in_hand_after (t ∷ h) =
-    if eqb (detected_by t.reply) 0 && eqb (outcome_of t.reply) 0 then in_hand_after h
+    when eqb (detected_by t.reply) 0 && eqb (outcome_of t.reply) 0 then in_hand_after h
     else bit (eqb (detected_by t.reply) 1 && not (eqb (outcome_of t.reply) 7))

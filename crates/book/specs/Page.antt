@@ -2,7 +2,7 @@
 -- 02, T-05: "each count is that of the standing graded verdicts in its class".
 use Rattle.std.specs.Prelude.{ℕ, ◌+◌, Bool, ◌&&◌, List, [], ◌∷◌, eqb, ℤ, pos, length}
 use Rattle.std.specs.Int.Signed.{lt_z}
-use Rattle.laws.specs.Choice.{if◌then◌else◌, within}
+use Rattle.laws.specs.Choice.{when◌then◌else◌, within}
 use Rattle.lists.specs.Sums.{sum_of, squares_of}
 use Rattle.lists.specs.Each.{counted}
 use Rattle.lists.specs.Counts.{tab}
@@ -14,21 +14,21 @@ use Rattle.book.specs.Book.{Verdict}
 -- how many verdicts have this outcome
 unfoldable pub count_of : ℕ → List Verdict → ℕ
 count_of o [] = 0
-count_of o (v ∷ p) = count_of o p + (if eqb v.outcome o then 1 else 0)
+count_of o (v ∷ p) = count_of o p + (when eqb v.outcome o then 1 else 0)
 
 -- the nets of outcomes 1 to 5
 unfoldable pub nets_of : List Verdict → List ℤ
 nets_of [] = []
-nets_of (v ∷ p) = if within 1 5 v.outcome then v.net ∷ nets_of p else nets_of p
+nets_of (v ∷ p) = when within 1 5 v.outcome then v.net ∷ nets_of p else nets_of p
 
 -- the largest of x and the numbers of a list, and the smallest
 unfoldable pub largest_from : ℤ → List ℤ → ℤ
 largest_from x [] = x
-largest_from x (y ∷ ys) = if lt_z (largest_from y ys) x then x else largest_from y ys
+largest_from x (y ∷ ys) = when lt_z (largest_from y ys) x then x else largest_from y ys
 
 unfoldable pub smallest_from : ℤ → List ℤ → ℤ
 smallest_from x [] = x
-smallest_from x (y ∷ ys) = if lt_z x (smallest_from y ys) then x else smallest_from y ys
+smallest_from x (y ∷ ys) = when lt_z x (smallest_from y ys) then x else smallest_from y ys
 
 -- "(0 if none)"
 abbrev pub largest_of : List ℤ → ℤ

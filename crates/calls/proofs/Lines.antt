@@ -8,7 +8,7 @@ use lib.Dec.{eqb, leb}
 use lib.ListN.{length, take, drop, length-append}
 use lib.Seq.{take_all, take-take, take-append-le, length-take-le}
 use borrow.Author.Tests.{leb-true, leb-false, lt-leb}
-use Rattle.laws.specs.Choice.{if◌then◌else◌}
+use Rattle.laws.specs.Choice.{when◌then◌else◌}
 use Rattle.laws.proofs.Tests.{by_cases}
 use Rattle.decimal.specs.Bytes.{lf}
 use Rattle.text.specs.Read.{longest_line}
@@ -55,7 +55,7 @@ long t n = let h = leb-false (length t) kept_bytes n in omega (arith, h)
 
 -- a line over the longest reads as one thing, whatever it holds
 pub cut_read : {A : Type 0} (read : List ℕ → A) (other : A) (t : List ℕ)
-    → (if leb (length (take kept_bytes t)) longest_line then read (take kept_bytes t) else other) ≡ (if leb (length t) longest_line then read t else other)
+    → (when leb (length (take kept_bytes t)) longest_line then read (take kept_bytes t) else other) ≡ (when leb (length t) longest_line then read t else other)
 cut_read read other t =
     by_cases (leb (length t) kept_bytes)
     (λ y. rw (short t y) refl)

@@ -1,13 +1,13 @@
 -- A list that is kept in the first places of a memory while a call is being read: one that is too long is refused whatever follows, so a memory has one place over the most, and what has no place is not kept.
 use Rattle.std.specs.Prelude.{ℕ, ◌≤◌, ◌≡◌, List, [], ◌∷◌, ◌++◌, ltb, length, take}
-use Rattle.laws.specs.Choice.{if◌then◌else◌}
+use Rattle.laws.specs.Choice.{when◌then◌else◌}
 
 -- the list with one more, if it has a place
 abbrev pub noted : {A : Type 0} → ℕ → List A → A → List A
-noted places l x = if ltb (length l) places then l ++ x ∷ [] else l
+noted places l x = when ltb (length l) places then l ++ x ∷ [] else l
 
 -- it joins the list that stands in a memory's first places, which are n behind it
 pub record Noted {A : Type 0} (before : List A) (count : ℕ) (x : A) (after : List A) (n : ℕ) : Type 0 where
   pub same : length after ≡ length before
   pub within : n ≤ length before
-  pub list : take n after ≡ (if ltb count (length before) then take count before ++ x ∷ [] else take count before)
+  pub list : take n after ≡ (when ltb count (length before) then take count before ++ x ∷ [] else take count before)

@@ -10,7 +10,7 @@ use lib.IntN.{ℤ, pos}
 use lib.ListN.{length, get_or, set, replicate, length-set, length-replicate, get_or-replicate}
 use lib.Seq.{get_or-set_same, get_or-set_other}
 use borrow.Author.Tests.{eqb-true, eqb-false, leb-true, le-leb}
-use Rattle.laws.specs.Choice.{if◌then◌else◌, bit}
+use Rattle.laws.specs.Choice.{when◌then◌else◌, bit}
 use Rattle.laws.proofs.Tests.{both, and_intro, if_ind, by_cases}
 use Rattle.settings.specs.Settings.{blank, record_fit, record_ranged, limits_ordered, settings_length}
 use Rattle.settings.specs.declared.Settings.{Settings}
@@ -264,11 +264,11 @@ refusal_shown l count a ts e =
     (λ z. no_refusal (accepted l a ts e).reply (accepted-done l a ts e) ∙ sym (eqb-true n 0 z))
     (λ _. refl)
 
-cancel_answer : (l : Line) (count : ℕ) (a : Settings) (ts : List ℤ) → memory_sound l count a ts Cancel ≡ true → refusal_of l count a ts Cancel ≡ (if chance_of l.undo then 0 else nothing_no)
+cancel_answer : (l : Line) (count : ℕ) (a : Settings) (ts : List ℤ) → memory_sound l count a ts Cancel ≡ true → refusal_of l count a ts Cancel ≡ (when chance_of l.undo then 0 else nothing_no)
 unfolding refusal_of event_ranged status_refusal event_agrees run_unsafe run_occupied nothing_to_cancel
 cancel_answer l count a ts h = rw h (by l.undo)
   where
-    by : (u : Undo) → ◌≡◌ {A = ℕ} (if no_chance u then nothing_no else 0) (if chance_of u then 0 else nothing_no)
+    by : (u : Undo) → ◌≡◌ {A = ℕ} (when no_chance u then nothing_no else 0) (when chance_of u then 0 else nothing_no)
     by u = by_cases (no_chance u) (λ y. rw y refl) (λ n. rw n refl)
 
 page_report : (p : List Verdict) → Page p → report_fit (tally_of_page p) ≡ true

@@ -4,7 +4,7 @@ use mathlib.Core.Bool.{◌&&◌, not}
 use Prim.Native.Nat.{ℕ, ◌+◌, ◌*◌}
 use native.Mathlib.Omega.{arith}
 use lib.Dec.{eqb}
-use Rattle.laws.specs.Choice.{if◌then◌else◌, bit}
+use Rattle.laws.specs.Choice.{when◌then◌else◌, bit}
 use Rattle.line.proofs.Moves.{Moves, still, judged, judged-next, dismissed, dismissed-next, two-on, abandoned, detected}
 use Rattle.book.specs.Boxes.{is_judged}
 
@@ -14,7 +14,7 @@ is o k = bit (eqb o k)
 -- a and z: in hand before and after; d and o: the reply's detected and outcome
 pub record Level (a d o z : ℕ) : Type 0 where
   pub flow : a + d ≡ is_judged o + 2 * is o 7 + is o 9 + is o 10 + z
-  pub last : z ≡ (if eqb d 0 && eqb o 0 then a else bit (eqb d 1 && not (eqb o 7)))
+  pub last : z ≡ (when eqb d 0 && eqb o 0 then a else bit (eqb d 1 && not (eqb o 7)))
 
 pub level : {a d o z : ℕ} → Moves a d o z → Level a d o z
 level (still a) = record { flow = omega arith; last = refl }

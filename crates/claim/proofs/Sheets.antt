@@ -8,7 +8,7 @@ use lib.Dec.{T, eqb, ltb}
 use lib.IntN.{ℤ}
 use lib.ListN.{length}
 use borrow.Author.Tests.{eqb-true, eqb-false, eq-eqb, leb-true, ltb-true}
-use Rattle.laws.specs.Choice.{if◌then◌else◌}
+use Rattle.laws.specs.Choice.{when◌then◌else◌}
 use Rattle.laws.proofs.Tests.{if_ind, by_cases}
 use Rattle.event.specs.declared.Event.{Event}
 use Rattle.weight.specs.Weight.{is_weight}
@@ -190,7 +190,7 @@ unfolding book.fed replied entered has_place
 entered-full k f g e x n v p = rw (v, p)
 
 tallied_by_lem : (k : Line) (f : Pages) (g : ℕ → ℤ) (x : Effect) (n : ℕ) (place : Bool) → is_verdict x.outcome ≡ true → ltb (length (f k.code)) 999999 ≡ place
-    → tallied_by (beside k f g) (replied x n) ≡ (if place then 1 else 0)
+    → tallied_by (beside k f g) (replied x n) ≡ (when place then 1 else 0)
 unfolding tallied_by replied has_place
 tallied_by_lem k f g x n place v p = rw (v, p)
 
@@ -208,7 +208,7 @@ abbrev passed-out : Effect → List ℤ → Out
 passed-out x ts = record { line = with_undo x.line nothing; storing = Nothing; tallies = ts; reply = replied x 0 }
 
 noted_by : (x : Effect) (target : ℤ) (ts : List ℤ) (b : Bool) → takes_at ts x.line.code x.outcome x.net target ≡ b
-    → noted x target ts ≡ (if b then tallied-out x target ts (part_at ts x.line.code) else passed-out x ts)
+    → noted x target ts ≡ (when b then tallied-out x target ts (part_at ts x.line.code) else passed-out x ts)
 unfolding noted
 noted_by x target ts true h = rw h refl
 noted_by x target ts false h = rw h refl

@@ -1,6 +1,6 @@
 -- Demand 3, "one claim over the whole list": `Claim` is what `claim::ledger` ensures.
 use Rattle.std.specs.Prelude.{ℕ, ◌+◌, ◌*◌, ◌≤◌, ◌≡◌, ◌≢◌, List, get_or}
-use Rattle.laws.specs.Choice.{if◌then◌else◌, bit}
+use Rattle.laws.specs.Choice.{when◌then◌else◌, bit}
 use Rattle.settings.specs.Settings.{last_code, blank}
 use Rattle.event.specs.declared.Event.{Event}
 use Rattle.event.specs.declared.Event.TheVariants.{Cancel}
@@ -42,7 +42,7 @@ pub record Stands (w : World) : Type 0 where
   -- "Tallied is 1 exactly when a verdict was put on a page"
   pub tallied : (e : Event) → tallied_in (answer w e).reply ≡ tallied_by (book_of w.history) (answer w e).reply
   -- "a cancel is accepted exactly at a chance"
-  pub cancelled : refusal_in (answer w Cancel).reply ≡ (if (book_of w.history).chance then 0 else nothing_no)
+  pub cancelled : refusal_in (answer w Cancel).reply ≡ (when (book_of w.history).chance then 0 else nothing_no)
   -- each code's sheet is printed, with the figures of the verdicts standing under it in the book
   pub sheets : (code : ℕ) → code ≤ last_code
       → report_on w.state.settings w.state.tallies code

@@ -1,7 +1,7 @@
 -- 02, T-01 "Six sorters": what an event makes of one sorter hangs on that sorter, what it is set to, whether the event was a
 -- running tick, the verdict given and the status after it, and on no other sorter.
 use Rattle.std.specs.Prelude.{ℕ, ◌<◌, ◌≡◌, Bool, ◌||◌, eqb, length, get_or}
-use Rattle.laws.specs.Choice.{if◌then◌else◌}
+use Rattle.laws.specs.Choice.{when◌then◌else◌}
 use Rattle.queue.specs.Queue.{waits_of}
 use Rattle.device.specs.Sorter.{sorter_off}
 use Rattle.device.specs.declared.sorter.Sorter.{Sorter}
@@ -25,8 +25,8 @@ is_halted status = eqb status stopped || eqb status emergency
 -- "Entering status 0 or 3 .. empties the queue, puts the sorter off"
 unfoldable pub sorter_after : Sorter → SorterSetup → Bool → ℕ → ℕ → Sorter
 sorter_after s c tick verdict status =
-    if tick then entered verdict (ticked_as s c) c
-    else (if is_halted status then sorter_off else s)
+    when tick then entered verdict (ticked_as s c) c
+    else (when is_halted status then sorter_off else s)
 
 -- sorter k + 1 of a line, and what it is set to
 abbrev pub sorter_of : Line → ℕ → Sorter

@@ -1,6 +1,6 @@
 -- 02, T-14 "No box left waiting": `NoBoxWaits` is what `claim::no_box_waits` ensures.
 use Rattle.std.specs.Prelude.{ℕ, ◌+◌, ◌*◌, ◌≤◌, ◌≡◌, ◌≢◌, Bool, true, ◌&&◌, ◌||◌, not, List, [], ◌∷◌, ◌++◌, eqb}
-use Rattle.laws.specs.Choice.{if◌then◌else◌, within, bit}
+use Rattle.laws.specs.Choice.{when◌then◌else◌, within, bit}
 use Rattle.status.specs.Status.{ninth_error}
 use Rattle.event.specs.Reply.{no_error}
 use Rattle.event.specs.declared.Event.{Event}
@@ -29,12 +29,12 @@ ticks_in w es = added_up (λ l e r. bit (is_counted l e r)) w es
 unfoldable pub next_outcome : World → List Event → ℕ
 next_outcome w [] = 0
 next_outcome w (e ∷ es) =
-    if eqb (outcome_of (answer w e).reply) 0 then next_outcome (after w e) es else outcome_of (answer w e).reply
+    when eqb (outcome_of (answer w e).reply) 0 then next_outcome (after w e) es else outcome_of (answer w e).reply
 
 -- the outcome of the box that e detects on w, once the events es have come; 0 while it has none. The second box of a two-on verdict
 -- has it in its own reply; any other outcome there is that of the box before it.
 unfoldable pub outcome_of_box : World → Event → List Event → ℕ
-outcome_of_box w e es = if eqb (outcome_of (answer w e).reply) 7 then 7 else next_outcome (after w e) es
+outcome_of_box w e es = when eqb (outcome_of (answer w e).reply) 7 then 7 else next_outcome (after w e) es
 
 -- a grade, foreign, crash or dismissed: what comes of a box's weight, and not of the next box, a stop or an emergency
 abbrev pub is_weighed : ℕ → Bool

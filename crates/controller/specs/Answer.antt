@@ -1,6 +1,6 @@
 -- 01, "Text lines": what is answered to a line of text, and where in a lent buffer it is written.
 use Rattle.std.specs.Prelude.{ℕ, ◌+◌, Bool, true, false, List, ◌++◌, eqb, ltb, ℤ, take, drop}
-use Rattle.laws.specs.Choice.{if◌then◌else◌}
+use Rattle.laws.specs.Choice.{when◌then◌else◌}
 use Rattle.refusal.specs.Rows.{lengths_wrong}
 use Rattle.refusal.specs.Table.{table, first_holding}
 use Rattle.refusal.specs.declared.Faults.{Faults}
@@ -13,7 +13,7 @@ use Rattle.print.specs.Written.{put_text}
 -- a report's refusal, or the code's sheet
 abbrev pub report_answer : ℕ → Report → List ℕ
 report_answer code r =
-    if eqb r.number 0 then sheet_text code r.sheet else reply_text (Refused r.number r.input)
+    when eqb r.number 0 then sheet_text code r.sheet else reply_text (Refused r.number r.input)
 
 -- "A line that reads as no event and no report is refused 1": which conditions of the table hold; "Every call checks both lengths"
 abbrev pub text_faults : ℕ → List ℤ → Faults

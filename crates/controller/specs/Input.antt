@@ -1,6 +1,6 @@
 -- 01, "Text lines": the lines of an input, and from them the line and both memories behind it and what is printed over it.
 use Rattle.std.specs.Prelude.{ℕ, List, [], ◌∷◌, ◌++◌, eqb}
-use Rattle.laws.specs.Choice.{if◌then◌else◌}
+use Rattle.laws.specs.Choice.{when◌then◌else◌}
 use Rattle.decimal.specs.Bytes.{lf}
 use Rattle.line.specs.State.{State, fresh_state}
 use Rattle.text.specs.Read.{read_line}
@@ -14,7 +14,7 @@ last_line (b ∷ text) = (b ∷ text) ∷ []
 -- "each up to LF or the end", where text is the line that has begun
 unfoldable pub lines_from : List ℕ → List ℕ → List (List ℕ)
 lines_from text [] = last_line text
-lines_from text (b ∷ s) = if eqb b lf then text ∷ lines_from [] s else lines_from (text ++ b ∷ []) s
+lines_from text (b ∷ s) = when eqb b lf then text ∷ lines_from [] s else lines_from (text ++ b ∷ []) s
 
 abbrev pub lines_of : List ℕ → List (List ℕ)
 lines_of input = lines_from [] input

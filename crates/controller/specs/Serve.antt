@@ -1,6 +1,6 @@
 -- 01, "Text lines": what a line of text says goes through the controller, and is answered.
 use Rattle.std.specs.Prelude.{ℕ, ◌+◌, List, ℤ, length}
-use Rattle.laws.specs.Choice.{if◌then◌else◌}
+use Rattle.laws.specs.Choice.{when◌then◌else◌}
 use Rattle.settings.specs.declared.Settings.{Settings}
 use Rattle.sheet.specs.Report.{report_on}
 use Rattle.line.specs.State.{State}
@@ -39,7 +39,7 @@ pub record Serving : Type 0 where
 -- the answer stands behind the first bytes of the output; with too little room there everything stays
 unfoldable pub serving : State → Read → List ℕ → ℕ → Serving
 serving s said out at =
-    if no_room (length out) at then record { state = s; out = out; at = at; full = 1 }
+    when no_room (length out) at then record { state = s; out = out; at = at; full = 1 }
     else record { state = state_after s said; out = put_at at (answer_to s said) out; at = at + length (answer_to s said); full = 0 }
 
 -- what the call answers of it

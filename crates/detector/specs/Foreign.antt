@@ -1,7 +1,7 @@
 -- 02, T-04 "Detector further up the belt": "Up to eight foreign signals are carried, each with its own delay tf." They stand
 -- in the order in which they came; a signal is its delay left, in ticks, and at 0 it has ended.
 use Rattle.std.specs.Prelude.{ℕ, Bool, List, [], map, leb, ltb, length}
-use Rattle.laws.specs.Choice.{if◌then◌else◌}
+use Rattle.laws.specs.Choice.{when◌then◌else◌}
 use Rattle.lists.specs.Each.{counted, without_first}
 use Rattle.time.specs.Time.{fallen, ended}
 use Rattle.queue.specs.Queue.{places, waits_of, laid, is_empty, joined, queue_fit}
@@ -32,7 +32,7 @@ due f = ltb 0 (ended_in f)
 
 -- "Step 5 lets all delays fall"; where none is carried all stays as it is
 unfoldable pub delays_fallen : Foreign → Foreign
-delays_fallen f = if is_empty f.signals then f else carrying (map fallen (signals_of f))
+delays_fallen f = when is_empty f.signals then f else carrying (map fallen (signals_of f))
 
 -- a change 0 to 1: one more "with its own delay tf", the youngest; "with eight carried" it "is not carried"
 unfoldable pub signalled : Foreign → ℕ → Foreign
@@ -40,7 +40,7 @@ signalled f tf = record { signals = joined f.signals tf }
 
 -- 5. the delays fall, then a change 0 to 1 is looked at
 unfoldable pub foreign_ticked : Foreign → Bool → ℕ → Foreign
-foreign_ticked f rises tf = if rises then signalled (delays_fallen f) tf else delays_fallen f
+foreign_ticked f rises tf = when rises then signalled (delays_fallen f) tf else delays_fallen f
 
 -- "uses up one ended signal, the oldest"
 unfoldable pub oldest_used : Foreign → Foreign

@@ -1,6 +1,6 @@
 -- 01, step 4 and the queueing of verdicts: the sorter's queue of waits and its on-time.
 use Rattle.std.specs.Prelude.{ℕ, Bool, ◌&&◌, ◌||◌, not, [], ltb}
-use Rattle.laws.specs.Choice.{if◌then◌else◌}
+use Rattle.laws.specs.Choice.{when◌then◌else◌}
 use Rattle.time.specs.Time.{is_time, fallen}
 use Rattle.queue.specs.Queue.{laid, is_empty, is_full, queue_ticked, one_ends, joined, queue_fit}
 use Rattle.device.specs.declared.sorter.Sorter.{Sorter}
@@ -16,7 +16,7 @@ sorting s = not (is_empty s.queue) || ltb 0 s.on
 -- "The sorter's on-time falls by 1 if above 0. Each queued wait falls by 1; one that reaches 0 leaves, and the on-time becomes to."
 unfoldable pub sorter_ticked : Sorter → ℕ → Sorter
 sorter_ticked s to =
-    record { queue = queue_ticked s.queue; on = if one_ends s.queue then to else fallen s.on }
+    record { queue = queue_ticked s.queue; on = when one_ends s.queue then to else fallen s.on }
 
 -- "is queued with wait ts if fewer than 8 wait"
 unfoldable pub queued : Sorter → ℕ → Sorter

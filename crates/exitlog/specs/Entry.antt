@@ -1,6 +1,6 @@
 -- What a line of the program `exits` says: `a= b=` begins a call, `verdict=` and `signal=` give a tick. Fields stand as in 01, "Text lines".
 use Rattle.std.specs.Prelude.{ℕ, ◌-◌, ◌^◌, List, [], ◌∷◌, leb, ℤ, pos, negsuc, length}
-use Rattle.laws.specs.Choice.{if◌then◌else◌}
+use Rattle.laws.specs.Choice.{when◌then◌else◌}
 use Rattle.numeral.specs.Number.{hold, unsigned_of}
 use Rattle.text.specs.Form.{Item, fields_form, Values, other, values, line_values}
 use Rattle.text.specs.Read.{at, longest_line}
@@ -24,7 +24,7 @@ largest = 2 ^ 64 - 1
 
 -- a number as a tick, where 64 bits hold it
 abbrev pub tick_of : ℤ → Tick
-tick_of (pos n) = if leb n largest then tick.Of n else tick.TooWide
+tick_of (pos n) = when leb n largest then tick.Of n else tick.TooWide
 tick_of (negsuc n) = tick.TooWide
 
 -- the tick of a line, if it has the form of one
@@ -53,6 +53,6 @@ window_or (values vs) = Begin (bound_of (at vs 0)) (bound_of (at vs 1))
 -- a line that is too long, or of another form, is other
 abbrev pub read_entry : List ℕ → Entry
 read_entry s =
-    if leb (length s) longest_line
+    when leb (length s) longest_line
     then verdict_or (tick_in (line_values verdict_form s)) (signal_or (tick_in (line_values signal_form s)) (window_or (line_values window_form s)))
     else Other

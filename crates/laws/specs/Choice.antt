@@ -1,10 +1,10 @@
 -- How the definitions choose: by a test that computes.
 use Rattle.std.specs.Prelude.{ℕ, Bool, true, false, ◌&&◌, leb}
 
-infix 10 if◌then◌else◌
-abbrev pub if◌then◌else◌ : {A : Type 0} → Bool → A → A → A
-if◌then◌else◌ true x y = x
-if◌then◌else◌ false x y = y
+infix 10 when◌then◌else◌
+abbrev pub when◌then◌else◌ : {A : Type 0} → Bool → A → A → A
+when◌then◌else◌ true x y = x
+when◌then◌else◌ false x y = y
 
 -- low to high, both included
 abbrev pub within : ℕ → ℕ → ℕ → Bool

@@ -8,7 +8,7 @@ use lib.Dec.{eqb, T}
 use lib.IntN.{ℤ, pos, ◌-ℤ◌}
 use lib.Signed.{le_z}
 use borrow.Author.Tests.{eqb-true, not-true}
-use Rattle.laws.specs.Choice.{if◌then◌else◌, bit}
+use Rattle.laws.specs.Choice.{when◌then◌else◌, bit}
 use Rattle.weight.specs.Weight.{is_weight}
 use Rattle.laws.proofs.Tests.{both, if_ind, never}
 use Rattle.mask.specs.Bits.{marked, lowest_off}
@@ -292,7 +292,7 @@ unfolding halting halted
 halting_goes l s f =
     record { fit = f; code = refl; undo = refl; boxes = all (in_hand l.item); net = refl }
   where
-    all : (b : Bool) → Moves (bit b) 0 (if b then 10 else 0) 0
+    all : (b : Bool) → Moves (bit b) 0 (when b then 10 else 0) 0
     all true = moves.abandoned
     all false = moves.still 0
 

@@ -1,6 +1,6 @@
 -- 01, "Events": run, stop and emergency, as accepted.
 use Rattle.std.specs.Prelude.{◌&&◌, eqb}
-use Rattle.laws.specs.Choice.{if◌then◌else◌}
+use Rattle.laws.specs.Choice.{when◌then◌else◌}
 use Rattle.status.specs.Status.{stopped, running, paused, emergency, plain_error}
 use Rattle.line.specs.Line.{is_running, busy, with_status, with_bench}
 use Rattle.bench.specs.Bench.{begun}
@@ -16,8 +16,8 @@ ran l = plain (with_bench (with_status l running no_error) (begun l.bench (eqb l
 -- "Stop: running and busy gives paused, error 0; running and not busy, or paused, gives stopped; stopped stays."
 unfoldable pub stopping : Line → Effect
 stopping l =
-    if is_running l && busy l then plain (with_status l paused plain_error)
-    else (if eqb l.status stopped then plain l else halting l stopped)
+    when is_running l && busy l then plain (with_status l paused plain_error)
+    else (when eqb l.status stopped then plain l else halting l stopped)
 
 -- "Emergency: accepted in any status, gives status 3."
 unfoldable pub alarmed : Line → Effect

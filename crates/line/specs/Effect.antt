@@ -1,6 +1,6 @@
 -- What an event does to the line and to a box, before a verdict is tallied; and the reply's fields.
 use Rattle.std.specs.Prelude.{ℕ, pos}
-use Rattle.laws.specs.Choice.{if◌then◌else◌, bit}
+use Rattle.laws.specs.Choice.{when◌then◌else◌, bit}
 use Rattle.sorters.specs.Sorters.{all_off}
 use Rattle.item.specs.Item.{in_hand}
 use Rattle.line.specs.Line.{busy, conveyor, sorter_field, with_status, with_sorters, with_item}
@@ -25,7 +25,7 @@ halted l s = with_item (with_sorters (with_status l s no_error) all_off) None
 
 unfoldable pub halting : Line → ℕ → Effect
 halting l s =
-    record { line = halted l s; detected = 0; outcome = if in_hand l.item then 10 else 0; net = pos 0 }
+    record { line = halted l s; detected = 0; outcome = when in_hand l.item then 10 else 0; net = pos 0 }
 
 -- "Status, busy, conveyor, sorter and error are those after the event. Detected and tallied are 1 if this event did so."
 unfoldable pub replied : Effect → ℕ → Reply

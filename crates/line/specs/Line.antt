@@ -1,6 +1,6 @@
 -- 01, "Line and memory": statuses, busy, the fresh line; and the line with one part anew.
 use Rattle.std.specs.Prelude.{ℕ, Bool, ◌||◌, List, eqb, pos}
-use Rattle.laws.specs.Choice.{if◌then◌else◌}
+use Rattle.laws.specs.Choice.{when◌then◌else◌}
 use Rattle.status.specs.Status.{stopped, running, conveyor_runs}
 use Rattle.bench.specs.Bench.{fresh_bench}
 use Rattle.bench.specs.declared.Bench.{Bench}
@@ -32,7 +32,7 @@ conveyor l = conveyor_runs l.status l.setup.mode (in_hand l.item)
 
 -- "Sorter is 1 when running with on-time above 0."; 02, T-01: it "is 0 to 63, bit k-1 for sorter k"
 unfoldable pub sorter_field : Line → ℕ
-sorter_field l = if is_running l then on_bits l.sorters else 0
+sorter_field l = when is_running l then on_bits l.sorters else 0
 
 -- "A fresh line is stopped, on code 0, with sensor and foreign levels 0, last gross 0, no foreign signal, error none, nothing to cancel";
 -- "the last sample's safety (255 if fresh)"

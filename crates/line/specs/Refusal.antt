@@ -1,6 +1,6 @@
 -- 01, "Refusal numbers of the manual's kind": when each condition of the table holds.
 use Rattle.std.specs.Prelude.{ℕ, Bool, false, ◌&&◌, ◌||◌, not, List, eqb, ℤ}
-use Rattle.laws.specs.Choice.{if◌then◌else◌}
+use Rattle.laws.specs.Choice.{when◌then◌else◌}
 use Rattle.mask.specs.Bits.{lowest_off}
 use Rattle.refusal.specs.Table.{safety_no, table, first_holding}
 use Rattle.refusal.specs.Rows.{lengths_wrong, reads_record, reads_tally, status_refusal, run_unsafe, run_occupied, nothing_to_cancel}
@@ -44,4 +44,4 @@ refusal_of l count a ts e = first_holding (table (faults_of l count a ts e))
 
 -- "input is the number of the lowest required input that is off (0 but for 5)"
 unfoldable pub input_of : Line → ℕ → ℕ
-input_of l number = if eqb number safety_no then input_off l else 0
+input_of l number = when eqb number safety_no then input_off l else 0

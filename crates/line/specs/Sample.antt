@@ -1,6 +1,6 @@
 -- 01, "Sample": the seven steps in order, where error 7 ends a tick, and bench mode.
 use Rattle.std.specs.Prelude.{ℕ, Bool, true, ◌&&◌, not, ◌≡◌, eqb, pos}
-use Rattle.laws.specs.Choice.{if◌then◌else◌}
+use Rattle.laws.specs.Choice.{when◌then◌else◌}
 use Rattle.weight.specs.Weight.{is_weight}
 use Rattle.mask.specs.Bits.{lowest_off}
 use Rattle.settings.specs.Settings.{record_fit}
@@ -32,7 +32,7 @@ step1 l s =
 -- the settled level "made the chosen edge in step 1": edge 1 is off to on, edge 2 on to off
 unfoldable pub edge_made : ℕ → ℕ → ℕ → Bool
 edge_made edge before after =
-    if eqb edge 1 then eqb before 0 && eqb after 1 else eqb before 1 && eqb after 0
+    when eqb edge 1 then eqb before 0 && eqb after 1 else eqb before 1 && eqb after 0
 
 -- "A foreign change 0 to 1 against the sample before"
 unfoldable pub foreign_rises : Line → Sample → Bool
@@ -58,16 +58,16 @@ pub record Ready (l : Line) (t : Tick) : Type 0 where
 -- 2. "Emergency 1: status 3. Emergency 0 in status 3: stopped."
 unfoldable pub step2 : Line → ℕ → Effect
 step2 l level =
-    if eqb level 1 then halting l emergency
-    else (if eqb l.status emergency then halting l stopped else plain l)
+    when eqb level 1 then halting l emergency
+    else (when eqb l.status emergency then halting l stopped else plain l)
 
 -- 3. "If a bit set in need is 0 in safety: paused, error 1"
 unfoldable pub step3 : Line → Line
-step3 l = if eqb (lowest_off l.setup.need l.last.safety) 0 then l else with_status l paused unsafe_error
+step3 l = when eqb (lowest_off l.setup.need l.last.safety) 0 then l else with_status l paused unsafe_error
 
 -- 02, T-02: in mode 4 "a running tick with gross ≤ nearzero" arms, and its gross is one of "the last 10"
 unfoldable pub on_bench : Line → Tick → Line
-on_bench l t = with_bench l (if is_bench l.setup then ticked_on l.bench t.gross t.active.nearzero else l.bench)
+on_bench l t = with_bench l (when is_bench l.setup then ticked_on l.bench t.gross t.active.nearzero else l.bench)
 
 -- 4. the on-times and waits of the sorters
 unfoldable pub step4 : Line → Line
@@ -91,22 +91,22 @@ box_taken e l = record { line = with_item l (new_item l.setup); detected = 1; ou
 
 -- "detected. With an item in hand, both become one two-on verdict and nothing is in hand."
 unfoldable pub detecting : Effect → Effect
-detecting e = if in_hand e.line.item then given (with_item e.line None) 1 7 (pos 0) else box_taken e e.line
+detecting e = when in_hand e.line.item then given (with_item e.line None) 1 7 (pos 0) else box_taken e e.line
 
 -- "and the settled level made the chosen edge in step 1"
 unfoldable pub by_sensor : Effect → Tick → Effect
-by_sensor e t = if t.made then detecting e else e
+by_sensor e t = when t.made then detecting e else e
 
 -- T-02: "an armed line still running and with nothing in hand detects a box when .."; "Detection disarms."
 unfoldable pub by_hand : Effect → Tick → Effect
 by_hand e t =
-    if not (in_hand e.line.item) && detects e.line.bench t.gross t.active.nearzero
+    when not (in_hand e.line.item) && detects e.line.bench t.gross t.active.nearzero
     then box_taken e (with_bench e.line (disarmed e.line.bench)) else e
 
 -- 7. "If still running"; T-02: "Mode 4 .. detects nothing by the sensor"
 unfoldable pub step7 : Effect → Tick → Effect
 step7 e t =
-    if is_running e.line then (if is_bench e.line.setup then by_hand e t else by_sensor e t) else e
+    when is_running e.line then (when is_bench e.line.setup then by_hand e t else by_sensor e t) else e
 
 -- 02, T-04: "A change 0 to 1 with eight carried, ended ones included"; that delays fall alters no number of signals
 unfoldable pub ninth_signal : Line → Tick → Bool
@@ -114,7 +114,7 @@ ninth_signal l t = t.rises && eight_carried l.foreign
 
 -- it "pauses the line at once with error 7, after step 5 and before step 6"; else come steps 6 and 7
 unfoldable pub unless_ninth : Bool → Line → Tick → Effect
-unless_ninth ninth l t = if ninth then plain (with_status l paused ninth_error) else step7 (step6 l t) t
+unless_ninth ninth l t = when ninth then plain (with_status l paused ninth_error) else step7 (step6 l t) t
 
 -- "Else it is a running tick": steps 4 to 7
 unfoldable pub running_tick : Line → Tick → Effect
@@ -122,11 +122,11 @@ running_tick l t = unless_ninth (ninth_signal l t) (step5 (step4 (on_bench l t))
 
 -- step 3, and a running tick if it did not end the sample
 unfoldable pub guarded : Line → Tick → Effect
-guarded l t = if is_running l then running_tick l t else plain l
+guarded l t = when is_running l then running_tick l t else plain l
 
 -- "If not running, the sample ends."
 unfoldable pub from_step3 : Effect → Tick → Effect
-from_step3 e t = if is_running e.line then guarded (step3 e.line) t else e
+from_step3 e t = when is_running e.line then guarded (step3 e.line) t else e
 
 unfoldable pub sampled : Line → Settings → Sample → Effect
 sampled l a s =

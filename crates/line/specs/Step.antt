@@ -1,6 +1,6 @@
 -- 01: what each of the twelve kinds of event does when accepted, and an event as a whole.
 use Rattle.std.specs.Prelude.{ℕ, List, eqb, ℤ, length}
-use Rattle.laws.specs.Choice.{if◌then◌else◌}
+use Rattle.laws.specs.Choice.{when◌then◌else◌}
 use Rattle.settings.specs.declared.Settings.{Settings}
 use Rattle.event.specs.Reply.{no_error}
 use Rattle.event.specs.declared.Event.{Event}
@@ -42,7 +42,7 @@ abbrev pub refused : Line → List ℤ → ℕ → Out
 refused l ts number = record { line = l; storing = Nothing; tallies = ts; reply = Refused number (input_of l number) }
 
 abbrev pub unless_refused : ℕ → Line → Settings → List ℤ → Event → Out
-unless_refused number l a ts e = if eqb number 0 then accepted l a ts e else refused l ts number
+unless_refused number l a ts e = when eqb number 0 then accepted l a ts e else refused l ts number
 
 -- an event on a line and its tallies, where count records are lent and a is the active one
 unfoldable pub step_of : Line → ℕ → Settings → List ℤ → Event → Out

@@ -1,6 +1,6 @@
 -- 01: how verdicts, cancel and the clears change the tallies and the chance to cancel.
 use Rattle.std.specs.Prelude.{ℕ, List, eqb, ℤ, length}
-use Rattle.laws.specs.Choice.{if◌then◌else◌}
+use Rattle.laws.specs.Choice.{when◌then◌else◌}
 use Rattle.tally.specs.Tally.{is_verdict}
 use Rattle.part.specs.Part.{empty_part}
 use Rattle.tallies.specs.Memory.{written, zeros}
@@ -42,7 +42,7 @@ noted e target ts =
 
 -- "Active code and settings are those at the verdict."
 unfoldable pub recorded : Effect → ℤ → List ℤ → Out
-recorded e target ts = if is_verdict e.outcome then noted e target ts else untallied e ts
+recorded e target ts = when is_verdict e.outcome then noted e target ts else untallied e ts
 
 -- "Cancel puts back the active code's tally as before the last verdict."
 abbrev pub cancelled : Line → List ℤ → Out
@@ -54,7 +54,7 @@ recalled l c = with_code (with_undo l nothing) c
 
 -- "Clear zeroes tallies": of one code, and "clear of that code .. since" the verdict ends the chance
 unfoldable pub code_cleared : Line → ℕ → Line
-code_cleared l c = if eqb c l.code then with_undo l nothing else l
+code_cleared l c = when eqb c l.code then with_undo l nothing else l
 
 abbrev pub cleared_one : Line → List ℤ → ℕ → Out
 cleared_one l ts c = untallied (plain (code_cleared l c)) (written ts c empty_part)

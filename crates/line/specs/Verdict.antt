@@ -2,7 +2,7 @@
 -- Verdicts: 1 LoLo, 2 Lo, 3 OK, 4 Hi, 5 HiHi, 6 foreign, 7 two-on, 8 crash.
 use Rattle.std.specs.Prelude.{ℕ, ℤ, pos, ◌-ℤ◌}
 use Rattle.std.specs.Int.Signed.{le_z}
-use Rattle.laws.specs.Choice.{if◌then◌else◌}
+use Rattle.laws.specs.Choice.{when◌then◌else◌}
 use Rattle.mask.specs.Bits.{marked}
 use Rattle.settings.specs.Grade.{grade_of}
 use Rattle.settings.specs.declared.Settings.{Settings}
@@ -22,7 +22,7 @@ sorted_for l v = with_sorters l (all_entered v l.sorters (sorter_setups l.setup)
 
 -- "With its stop bit the line pauses"
 unfoldable pub stopped_for : Line → ℕ → Line
-stopped_for l v = if marked l.setup.stop v then with_status l paused (error_for v) else l
+stopped_for l v = when marked l.setup.stop v then with_status l paused (error_for v) else l
 
 -- a verdict given; "net is 0 unless 1 to 5"
 unfoldable pub given : Line → ℕ → ℕ → ℤ → Effect
@@ -31,20 +31,20 @@ given l detected v net =
       line = stopped_for (sorted_for l v) v;
       detected = detected;
       outcome = v;
-      net = if is_grade v then net else pos 0;
+      net = when is_grade v then net else pos 0;
     }
 
 -- 02, T-01: "A due foreign or grade verdict becomes crash if one of those queues holds 8, and then it enters none": crash has bit 0,
 -- which no sort mask has
 unfoldable pub or_crash : Line → ℕ → ℕ
-or_crash l v = if any_blocks v l.sorters (sorter_setups l.setup) then 8 else v
+or_crash l v = when any_blocks v l.sorters (sorter_setups l.setup) then 8 else v
 
 -- foreign if a signal has ended, else the grade. 02, T-04: "A foreign verdict due in step 6 uses up one ended signal, the oldest, also where it becomes crash."
 unfoldable pub verdict_of : Line → Settings → ℤ → Effect
 verdict_of l a net =
-    if due l.foreign then given (with_foreign l (oldest_used l.foreign)) 0 (or_crash l 6) net
+    when due l.foreign then given (with_foreign l (oldest_used l.foreign)) 0 (or_crash l 6) net
     else given l 0 (or_crash l (grade_of a net)) net
 
 -- "If m ≤ nearzero: dismissed. Else net = m - tare"
 unfoldable pub judged : Line → Settings → ℤ → Effect
-judged l a m = if le_z m a.nearzero then dismissed l else verdict_of l a (m -ℤ a.tare)
+judged l a m = when le_z m a.nearzero then dismissed l else verdict_of l a (m -ℤ a.tare)

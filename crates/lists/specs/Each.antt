@@ -1,6 +1,6 @@
 -- A test or a rule of one element, applied to a list of them; and of one with its partner in a second list.
 use Rattle.std.specs.Prelude.{ℕ, ◌+◌, Bool, true, false, ◌&&◌, ◌||◌, List, [], ◌∷◌}
-use Rattle.laws.specs.Choice.{if◌then◌else◌, bit}
+use Rattle.laws.specs.Choice.{when◌then◌else◌, bit}
 
 -- one of the list passes
 unfoldable pub any_of : {A : Type 0} → (A → Bool) → List A → Bool
@@ -32,12 +32,12 @@ counted p (x ∷ xs) = bit (p x) + counted p xs
 -- the list without those that pass
 unfoldable pub without : {A : Type 0} → (A → Bool) → List A → List A
 without p [] = []
-without p (x ∷ xs) = if p x then without p xs else x ∷ without p xs
+without p (x ∷ xs) = when p x then without p xs else x ∷ without p xs
 
 -- the list without the first that passes
 unfoldable pub without_first : {A : Type 0} → (A → Bool) → List A → List A
 without_first p [] = []
-without_first p (x ∷ xs) = if p x then xs else x ∷ without_first p xs
+without_first p (x ∷ xs) = when p x then xs else x ∷ without_first p xs
 
 -- x and the list made one by a rule of two
 unfoldable pub folded : {A : Type 0} → (A → A → A) → A → List A → A

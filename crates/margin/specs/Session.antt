@@ -1,6 +1,6 @@
 -- The calls of an input, line by line: what is kept of the call that is being read, and what a line prints.
 use Rattle.std.specs.Prelude.{ℕ, ◌+◌, ◌≤◌, ◌≡◌, Bool, true, false, ◌&&◌, not, List, [], ℤ, length, take}
-use Rattle.laws.specs.Choice.{if◌then◌else◌}
+use Rattle.laws.specs.Choice.{when◌then◌else◌}
 use Rattle.settings.specs.Settings.{blank}
 use Rattle.settings.specs.declared.Settings.{Settings}
 use Rattle.refusal.specs.Table.{form_no}
@@ -33,8 +33,8 @@ none_begun = record { begun = false; settled = false; e = 0; code = 0; settings 
 -- the settings have their place once, behind the line that begins a call, and the samples behind the settings
 abbrev pub placed : Bool → Bool → Entry → Entry
 placed begun settled (Begin e) = Begin e
-placed begun settled (Store code s) = if begun && not settled then Store code s else Other
-placed begun settled (Gross x) = if settled then Gross x else Other
+placed begun settled (Store code s) = when begun && not settled then Store code s else Other
+placed begun settled (Gross x) = when settled then Gross x else Other
 placed begun settled Other = Other
 
 -- the call behind a line

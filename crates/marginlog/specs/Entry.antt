@@ -1,6 +1,6 @@
 -- What a line of the program `margin` says: `e=` begins a call, a store line of 01 gives the settings, `gross=` a sample. Fields stand as in 01, "Text lines".
 use Rattle.std.specs.Prelude.{ℕ, List, [], ◌∷◌, leb, length}
-use Rattle.laws.specs.Choice.{if◌then◌else◌}
+use Rattle.laws.specs.Choice.{when◌then◌else◌}
 use Rattle.numeral.specs.Number.{hold, unsigned_of}
 use Rattle.event.specs.declared.Event.{Event}
 use Rattle.event.specs.declared.Event.TheVariants as event
@@ -58,4 +58,4 @@ short_entry s = gross_or (value_in (line_values gross_form s)) (margin_or (value
 
 -- a line that is too long, or of another form, is other
 abbrev pub read_entry : List ℕ → Entry
-read_entry s = if leb (length s) longest_line then short_entry s else Other
+read_entry s = when leb (length s) longest_line then short_entry s else Other

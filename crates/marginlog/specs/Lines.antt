@@ -1,6 +1,6 @@
 -- What a call prints: `outcomes=` and the names of the possible ones, in the order of their numbers with commas between; or its refusal.
 use Rattle.std.specs.Prelude.{ℕ, ◌≡◌, Bool, true, not, List, [], ◌∷◌, ◌++◌, ◌≢◌, ℤ, length}
-use Rattle.laws.specs.Choice.{if◌then◌else◌}
+use Rattle.laws.specs.Choice.{when◌then◌else◌}
 use Rattle.mask.specs.Bits.{bit_set}
 use Rattle.settings.specs.Settings.{is_code}
 use Rattle.settings.specs.declared.Settings.{Settings}
@@ -30,7 +30,7 @@ outcome_names mask =
 -- the names of the possible ones
 abbrev pub possible_ones : List Named → List (List ℕ)
 possible_ones [] = []
-possible_ones (n ∷ ns) = if n.possible then n.name ∷ possible_ones ns else possible_ones ns
+possible_ones (n ∷ ns) = when n.possible then n.name ∷ possible_ones ns else possible_ones ns
 
 unfoldable pub outcomes_text : ℕ → List ℕ
 outcomes_text mask = field "outcomes" (joined (bytes ",") (possible_ones (outcome_names mask))) ++ line_end

@@ -1,6 +1,6 @@
 -- 01, "Events": the masks sort, stop and need. Bits are counted from 0, inputs from 1: input k is bit k - 1.
 use Rattle.std.specs.Prelude.{ℕ, ◌-◌, ◌/◌, ◌%◌, ◌^◌, Bool, ◌&&◌, not, List, [], ◌∷◌, eqb}
-use Rattle.laws.specs.Choice.{if◌then◌else◌, within}
+use Rattle.laws.specs.Choice.{when◌then◌else◌, within}
 
 -- bit k of a mask is set
 abbrev pub bit_set : ℕ → ℕ → Bool
@@ -17,7 +17,7 @@ is_off need safety k = bit_set need (k - 1) && not (bit_set safety (k - 1))
 -- the first of some inputs that is required and off, 0 if none is
 unfoldable pub first_off : ℕ → ℕ → List ℕ → ℕ
 first_off need safety [] = 0
-first_off need safety (k ∷ ks) = if is_off need safety k then k else first_off need safety ks
+first_off need safety (k ∷ ks) = when is_off need safety k then k else first_off need safety ks
 
 -- "the number of the lowest required input that is off" (0 if none is)
 abbrev pub lowest_off : ℕ → ℕ → ℕ

@@ -10,7 +10,7 @@ use native.Mathlib.Decide.{dec_le}
 use native.Mathlib.Nat.{lt_of_not-le}
 use native.Mathlib.Omega.{arith}
 use borrow.Author.Tests.{leb-true, eqb-true}
-use Rattle.laws.specs.Choice.{if◌then◌else◌, within}
+use Rattle.laws.specs.Choice.{when◌then◌else◌, within}
 use Rattle.laws.proofs.Tests.{both, never}
 use Rattle.lists.proofs.Past.{cut}
 use Rattle.numeral.specs.Number.{none, some, is_digit, signed, digits, positive, number_head, four_digits, four_number, four_head, limit, hold}
@@ -72,8 +72,8 @@ held_same below n m [] h = held-end below n m [] h
 held_same below n m (b ∷ s) h = go (is_digit b) (held_same below (n * 10 + (b - 48)) (m * 10 + (b - 48)) s (omega arith))
   where
     go : (t : Bool) → held_head (digits below (n * 10 + (b - 48)) s) ≡ held_head (digits below (m * 10 + (b - 48)) s)
-        → held_head (if t then digits below (n * 10 + (b - 48)) s else some (signed below n) (b ∷ s))
-        ≡ held_head (if t then digits below (m * 10 + (b - 48)) s else some (signed below m) (b ∷ s))
+        → held_head (when t then digits below (n * 10 + (b - 48)) s else some (signed below n) (b ∷ s))
+        ≡ held_head (when t then digits below (m * 10 + (b - 48)) s else some (signed below m) (b ∷ s))
     go true e = e
     go false e = held-end below n m (b ∷ s) h
 
@@ -160,8 +160,8 @@ four_view line a b c d next = go (four_digits a b c d) refl
     small e = let f = four-bounds a b c d e in omega arith
 
     go : (t : Bool) → four_digits a b c d ≡ t
-        → found line (if t then Value (pos (four_number a b c d)) next else Nothing)
-        ≡ held_head (if t then some (pos (four_number a b c d)) (drop next line) else none)
+        → found line (when t then Value (pos (four_number a b c d)) next else Nothing)
+        ≡ held_head (when t then some (pos (four_number a b c d)) (drop next line) else none)
     go true e = ap (λ (x : ℕ). some (pos x) (drop next line)) (small e)
     go false e = refl
 

@@ -1,6 +1,6 @@
 -- What the reader finds at a place of a line, in the terms of `Number`.
 use Rattle.std.specs.Prelude.{ℕ, Bool, false, List, [], ◌∷◌, drop, eqb, pos}
-use Rattle.laws.specs.Choice.{if◌then◌else◌, within}
+use Rattle.laws.specs.Choice.{when◌then◌else◌, within}
 use Rattle.decimal.specs.Bytes.{digit_byte}
 use Rattle.numeral.specs.Number.{Head, none, some, four_digits, four_number, hold}
 use Rattle.numeral.specs.declared.Found.{Found}
@@ -24,4 +24,4 @@ found line Nothing = none
 found line (Value v next) = some v (drop next line)
 
 abbrev pub four_of : ℕ → ℕ → ℕ → ℕ → ℕ → Found
-four_of a b c d next = if four_digits a b c d then Value (pos (four_number a b c d)) next else Nothing
+four_of a b c d next = when four_digits a b c d then Value (pos (four_number a b c d)) next else Nothing

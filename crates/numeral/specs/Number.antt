@@ -1,7 +1,7 @@
 -- 01, "Text lines": how a number at the head of a text is read and held, and how four digits are written.
 use Rattle.std.specs.Prelude.{ℕ, suc, ◌+◌, ◌-◌, ◌*◌, ◌/◌, ◌%◌, min, Bool, true, false, ◌&&◌, List, [], ◌∷◌, eqb, ℤ, pos, negsuc, neg_ℤ}
 use Prim.Native.Char.{code}
-use Rattle.laws.specs.Choice.{if◌then◌else◌, within}
+use Rattle.laws.specs.Choice.{when◌then◌else◌, within}
 use Rattle.decimal.specs.Bytes.{digit_byte}
 
 -- what stands at the head of a text: no number, or a number and the text behind it
@@ -23,17 +23,17 @@ signed false n = pos n
 -- the digits at the head of a text, behind those of n: "of any number of digits"
 abbrev pub digits : Bool → ℕ → List ℕ → Head
 digits below n [] = some (signed below n) []
-digits below n (b ∷ s) = if is_digit b then digits below (n * 10 + digit_of b) s else some (signed below n) (b ∷ s)
+digits below n (b ∷ s) = when is_digit b then digits below (n * 10 + digit_of b) s else some (signed below n) (b ∷ s)
 
 -- digits with the first 1 to 9: "no .. leading zero"
 abbrev pub positive : Bool → List ℕ → Head
 positive below [] = none
-positive below (b ∷ s) = if within (digit_byte 1) (digit_byte 9) b then digits below (digit_of b) s else none
+positive below (b ∷ s) = when within (digit_byte 1) (digit_byte 9) b then digits below (digit_of b) s else none
 
 -- `0`, or `-` and such digits, or such digits: "no plus, leading zero or -0"
 abbrev pub number_head : List ℕ → Head
 number_head [] = none
-number_head (b ∷ s) = if eqb b (digit_byte 0) then some (pos 0) s else (if eqb b (code "-") then positive true s else positive false (b ∷ s))
+number_head (b ∷ s) = when eqb b (digit_byte 0) then some (pos 0) s else (when eqb b (code "-") then positive true s else positive false (b ∷ s))
 
 abbrev pub four_digits : ℕ → ℕ → ℕ → ℕ → Bool
 four_digits a b c d = is_digit a && (is_digit b && (is_digit c && is_digit d))
@@ -47,7 +47,7 @@ four_head [] = none
 four_head (a ∷ []) = none
 four_head (a ∷ b ∷ []) = none
 four_head (a ∷ b ∷ c ∷ []) = none
-four_head (a ∷ b ∷ c ∷ d ∷ s) = if four_digits a b c d then some (pos (four_number a b c d)) s else none
+four_head (a ∷ b ∷ c ∷ d ∷ s) = when four_digits a b c d then some (pos (four_number a b c d)) s else none
 
 -- and the writer: a number from 0 to 9999
 abbrev pub four_text : ℤ → List ℕ

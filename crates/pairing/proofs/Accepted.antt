@@ -7,7 +7,7 @@ use native.Mathlib.Omega.{arith}
 use lib.Dec.{leb, ltb}
 use lib.ListN.{length}
 use borrow.Author.Tests.{leb-true, ltb-false, not-false}
-use Rattle.laws.specs.Choice.{if◌then◌else◌}
+use Rattle.laws.specs.Choice.{when◌then◌else◌}
 use Rattle.laws.proofs.Tests.{both}
 use Rattle.time.specs.Time.{longest}
 use Rattle.refusal.specs.Table.{value_no}
@@ -16,7 +16,7 @@ use Rattle.pairing.specs.Sweep.{Filled}
 use Rattle.pairing.proofs.Entries.{Sorted, sorted}
 use Rattle.pairing.proofs.Sweeps.{Good, sweep-good, sweep-largest}
 
-passed : (h : Bool) (n rest : ℕ) → 0 < n → (if h then n else rest) ≡ 0 → (h ≡ false) × (rest ≡ 0)
+passed : (h : Bool) (n rest : ℕ) → 0 < n → (when h then n else rest) ≡ 0 → (h ≡ false) × (rest ≡ 0)
 passed true n rest p e = absurd (omega arith)
 passed false n rest p e = (refl, e)
 

@@ -1,7 +1,7 @@
 -- 02, T-05: the classes of a net about the target, and the formula for them.
 use Rattle.std.specs.Prelude.{ℕ, ◌*◌, ◌/◌, min, Bool, ◌&&◌, ◌||◌, eqb, ℤ, pos, nat_abs, ◌+ℤ◌, ◌-ℤ◌}
 use Rattle.std.specs.Int.Signed.{lt_z, le_z}
-use Rattle.laws.specs.Choice.{if◌then◌else◌}
+use Rattle.laws.specs.Choice.{when◌then◌else◌}
 
 -- "21 class counts", of classes 0 to 20
 abbrev pub class_count : ℕ
@@ -28,4 +28,4 @@ above net target = net -ℤ target +ℤ pos 115
 
 -- the class of a net: whole widths from there on, cut to 0 to 20
 unfoldable pub class_of : ℤ → ℤ → ℕ
-class_of net target = if lt_z (above net target) (pos 0) then 0 else min last_class (nat_abs (above net target) / 11)
+class_of net target = when lt_z (above net target) (pos 0) then 0 else min last_class (nat_abs (above net target) / 11)

@@ -1,6 +1,6 @@
 -- The 21 class counts as a line keeps them: three to a number, as digits in a base that no count reaches.
 use Rattle.std.specs.Prelude.{ℕ, ◌+◌, ◌*◌, ◌/◌, ◌%◌, ◌&&◌, List, [], ◌∷◌, ℤ, get_or}
-use Rattle.laws.specs.Choice.{if◌then◌else◌}
+use Rattle.laws.specs.Choice.{when◌then◌else◌}
 use Rattle.lists.specs.Counts.{one_more}
 use Rattle.weight.specs.Weight.{is_weight}
 use Rattle.tally.specs.Tally.{is_grade}
@@ -46,7 +46,7 @@ none_counted = record { from_0 = 0; from_3 = 0; from_6 = 0; from_9 = 0; from_12 
 -- the counts with a verdict: a graded one, with weights, is counted in its class
 unfoldable pub classed_with : Classes → ℕ → ℤ → ℤ → Classes
 classed_with c v net target =
-    if is_grade v && is_weight net && is_weight target then packed (one_more (counts_of c) (class_of net target)) else c
+    when is_grade v && is_weight net && is_weight target then packed (one_more (counts_of c) (class_of net target)) else c
 
 -- what a private step gives: the three counts of a number together
 unfoldable pub three_sum : ℕ → ℕ

@@ -1,6 +1,6 @@
 -- 02, T-05: "Beside each tally stand 21 class counts".
 use Rattle.std.specs.Prelude.{ℕ, Bool, ◌&&◌, List, eqb, ℤ, length, replicate}
-use Rattle.laws.specs.Choice.{if◌then◌else◌}
+use Rattle.laws.specs.Choice.{when◌then◌else◌}
 use Rattle.lists.specs.Counts.{add_up, one_more}
 use Rattle.weight.specs.Weight.{is_weight}
 use Rattle.tally.specs.Tally.{empty_tally, tally_fit, is_grade, takes, added}
@@ -25,7 +25,7 @@ unfoldable pub added_part : Part → ℕ → ℤ → ℤ → Part
 added_part p v net target =
     record {
       tally = added p.tally v net;
-      counts = if is_grade v then one_more p.counts (class_of net target) else p.counts;
+      counts = when is_grade v then one_more p.counts (class_of net target) else p.counts;
     }
 
 -- a part takes a verdict with its net and target: it is fit, the target is a weight, and its tally takes the verdict

@@ -8,7 +8,7 @@ use lib.Dec.{leb}
 use lib.IntN.{ℤ, pos, neg_ℤ, ◌+ℤ◌, +ℤ_idr}
 use lib.ListN.{length}
 use borrow.Author.Tests.{le-leb, leb-true, not-false}
-use Rattle.laws.specs.Choice.{if◌then◌else◌}
+use Rattle.laws.specs.Choice.{when◌then◌else◌}
 use Rattle.weight.specs.Weight.{largest_weight, is_weight}
 use Rattle.weight.specs.Mean.{rounded}
 use Rattle.weight.proofs.Nearest.{rounded-within}
@@ -33,7 +33,7 @@ pub record Accepted (xs : List ℤ) (e : ℕ) (s : Settings) : Type 0 where
   pub few : e ≤ widest
   pub fit : record_fit s ≡ true
 
-passed : (h : Bool) (n rest : ℕ) → 0 < n → (if h then n else rest) ≡ 0 → (h ≡ false) × (rest ≡ 0)
+passed : (h : Bool) (n rest : ℕ) → 0 < n → (when h then n else rest) ≡ 0 → (h ≡ false) × (rest ≡ 0)
 passed true n rest p e = absurd (omega arith)
 passed false n rest p e = (refl, e)
 

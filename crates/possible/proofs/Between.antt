@@ -7,7 +7,7 @@ use native.Mathlib.Nat.{lt_of_not-le}
 use native.Mathlib.Omega.{arith}
 use lib.Dec.{leb, ltb}
 use borrow.Author.Tests.{leb-true, ltb-true, le-leb, lt-leb, lt-ltb, le-ltb}
-use Rattle.laws.specs.Choice.{if◌then◌else◌}
+use Rattle.laws.specs.Choice.{when◌then◌else◌}
 use Rattle.laws.proofs.Tests.{both, and_intro}
 use Rattle.possible.proofs.Bits.{Flags, flag, by_flag}
 
@@ -15,11 +15,11 @@ module _ (nz tare lolo lo hi hihi : ℕ) where
   -- the outcome of a mean
   unfoldable pub out_n : ℕ → ℕ
   out_n m =
-      if leb m nz then 9
-      else (if ltb (m - tare) lolo then 1
-      else (if ltb (m - tare) lo then 2
-      else (if leb (m - tare) hi then 3
-      else (if leb (m - tare) hihi then 4
+      when leb m nz then 9
+      else (when ltb (m - tare) lolo then 1
+      else (when ltb (m - tare) lo then 2
+      else (when leb (m - tare) hi then 3
+      else (when leb (m - tare) hihi then 4
       else 5))))
 
   module _ (m : ℕ) (c : nz < m) where
@@ -49,7 +49,7 @@ module _ (nz tare lolo lo hi hihi : ℕ) where
 
   module _ (l h : ℕ) where
     abbrev pub from : ℕ
-    from = (if leb l nz then nz + 1 else l) - tare
+    from = (when leb l nz then nz + 1 else l) - tare
 
     abbrev pub upto : ℕ
     upto = h - tare

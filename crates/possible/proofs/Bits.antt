@@ -9,7 +9,7 @@ use native.Mathlib.Omega.{arith}
 use lib.Dec.{T, eqb}
 use lib.Pow.{pow_mono}
 use borrow.Author.Tests.{eqb-true, ne_eqb}
-use Rattle.laws.specs.Choice.{if◌then◌else◌, bit}
+use Rattle.laws.specs.Choice.{when◌then◌else◌, bit}
 use Rattle.mask.specs.Bits.{bit_set}
 
 -- the bit of each outcome
@@ -26,12 +26,12 @@ mask_of f = 512 * bit f.b9 + (2 * bit f.b1 + 4 * bit f.b2 + 8 * bit f.b3 + 16 * 
 
 unfoldable pub flag : Flags → ℕ → Bool
 flag f k =
-    if eqb k 1 then f.b1
-    else (if eqb k 2 then f.b2
-    else (if eqb k 3 then f.b3
-    else (if eqb k 4 then f.b4
-    else (if eqb k 5 then f.b5
-    else (if eqb k 9 then f.b9 else false)))))
+    when eqb k 1 then f.b1
+    else (when eqb k 2 then f.b2
+    else (when eqb k 3 then f.b3
+    else (when eqb k 4 then f.b4
+    else (when eqb k 5 then f.b5
+    else (when eqb k 9 then f.b9 else false)))))
 
 bit_le : (b : Bool) → bit b ≤ 1
 bit_le true = omega arith
@@ -80,10 +80,10 @@ module _ (f : Flags) where
   bits k = elim (dec_le 10 k) [ yes h ↦ far k h | no h ↦ near k (lt_of_not-le h) ]
 
 -- a flag that is set: which
-split : (k i : ℕ) (b rest : Bool) → (if eqb k i then b else rest) ≡ true → ((k ≡ i) × (b ≡ true)) ⊎ (rest ≡ true)
+split : (k i : ℕ) (b rest : Bool) → (when eqb k i then b else rest) ≡ true → ((k ≡ i) × (b ≡ true)) ⊎ (rest ≡ true)
 split k i b rest h = go (eqb k i) refl h
   where
-    go : (t : Bool) → eqb k i ≡ t → (if t then b else rest) ≡ true → ((k ≡ i) × (b ≡ true)) ⊎ (rest ≡ true)
+    go : (t : Bool) → eqb k i ≡ t → (when t then b else rest) ≡ true → ((k ≡ i) × (b ≡ true)) ⊎ (rest ≡ true)
     go true e g = inl (eqb-true k i e, g)
     go false e g = inr g
 

@@ -7,7 +7,7 @@ use lib.Dec.{leb, ltb}
 use lib.IntN.{ℤ, pos, negsuc, nat_abs, ◌+ℤ◌, ◌-ℤ◌}
 use lib.Signed.{le_z}
 use borrow.Author.Tests.{leb-true, ltb-true, le-leb}
-use Rattle.laws.specs.Choice.{if◌then◌else◌}
+use Rattle.laws.specs.Choice.{when◌then◌else◌}
 use Rattle.weight.specs.Weight.{is_weight}
 use Rattle.laws.proofs.Tests.{both, if_ind}
 use Rattle.mask.specs.Bits.{bit_set}
@@ -117,12 +117,12 @@ module _ (s : Settings) (fit : record_fit s ≡ true) where
     abbrev found-flags : Flags
     found-flags = flags (up s.nearzero) T (up s.lolo) (up s.lo) (up s.hi) (up s.hihi) (up low) (up high)
 
-    first-up : up (undismissed low s.nearzero) ≡ (if leb (up low) (up s.nearzero) then up s.nearzero + 1 else up low)
+    first-up : up (undismissed low s.nearzero) ≡ (when leb (up low) (up s.nearzero) then up s.nearzero + 1 else up low)
     unfolding undismissed
     first-up =
         rw (le_up low s.nearzero (small-weight low wl))
         (if_ind
-        (λ (z : ℤ). up z ≡ (if leb (up low) (up s.nearzero) then up s.nearzero + 1 else up low))
+        (λ (z : ℤ). up z ≡ (when leb (up low) (up s.nearzero) then up s.nearzero + 1 else up low))
         (leb (up low) (up s.nearzero))
         (s.nearzero +ℤ pos 1)
         low

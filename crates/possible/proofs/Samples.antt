@@ -6,7 +6,7 @@ use native.Mathlib.Omega.{arith}
 use lib.IntN.{ℤ, pos, negsuc, neg_ℤ, nat_abs, ◌+ℤ◌, ◌-ℤ◌}
 use lib.Signed.{lt_z}
 use borrow.Author.Tests.{leb-true, ltb-false, le-leb}
-use Rattle.laws.specs.Choice.{if◌then◌else◌}
+use Rattle.laws.specs.Choice.{when◌then◌else◌}
 use Rattle.laws.proofs.Tests.{if_ind}
 use Rattle.weight.specs.Weight.{largest_weight, is_weight}
 use Rattle.possible.specs.Answer.{Close, widest}
@@ -21,7 +21,7 @@ inside (negsuc a) h g = let l = ltb-false 999998 a h in le-leb (nat_abs (negsuc 
 pub clipped-weight : (d x : ℤ) → is_weight (clipped d x) ≡ true
 unfolding clipped
 clipped-weight d x =
-    if_ind (λ (z : ℤ). is_weight z ≡ true) (lt_z (x +ℤ d) bottom) bottom (if lt_z top (x +ℤ d) then top else (x +ℤ d))
+    if_ind (λ (z : ℤ). is_weight z ≡ true) (lt_z (x +ℤ d) bottom) bottom (when lt_z top (x +ℤ d) then top else (x +ℤ d))
     (λ h. refl)
     (λ h. if_ind (λ (z : ℤ). is_weight z ≡ true) (lt_z top (x +ℤ d)) top (x +ℤ d) (λ g. refl) (λ g. inside (x +ℤ d) h g))
 
@@ -59,7 +59,7 @@ module _ (e : ℕ) (x : ℤ) (w : is_weight x ≡ true) (few : e ≤ widest) whe
   unfolding clipped
   least =
       let y = x -ℤ pos e in
-      if_ind Least (lt_z y bottom) bottom (if lt_z top y then top else y)
+      if_ind Least (lt_z y bottom) bottom (when lt_z top y then top else y)
       (λ h. let t = lt_tells y bottom (omega arith) h in record { off = omega (arith, down, t); in_range = omega arith; under = omega (arith, at); least = λ n p q. omega (arith, q) })
       (λ h.
       let t = not_lt_tells y bottom (omega arith) h in
@@ -84,7 +84,7 @@ module _ (e : ℕ) (x : ℤ) (w : is_weight x ≡ true) (few : e ≤ widest) whe
   unfolding clipped
   most =
       let y = x +ℤ pos e in
-      if_ind Most (lt_z y bottom) bottom (if lt_z top y then top else y)
+      if_ind Most (lt_z y bottom) bottom (when lt_z top y then top else y)
       (λ h. let t = lt_tells y bottom (omega arith) h in absurd (omega (arith, t, raised, at)))
       (λ h.
       if_ind Most (lt_z top y) top y

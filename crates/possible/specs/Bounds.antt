@@ -2,7 +2,7 @@
 -- and the outcomes between two means.
 use Rattle.std.specs.Prelude.{◌&&◌, List, map, ℕ, ◌+◌, ◌*◌, ℤ, pos, neg_ℤ, ◌+ℤ◌, ◌-ℤ◌}
 use Rattle.std.specs.Int.Signed.{lt_z, le_z}
-use Rattle.laws.specs.Choice.{if◌then◌else◌, bit}
+use Rattle.laws.specs.Choice.{when◌then◌else◌, bit}
 use Rattle.lists.specs.Sums.{sum_of}
 use Rattle.weight.specs.Weight.{largest_weight}
 use Rattle.settings.specs.declared.Settings.{Settings}
@@ -16,7 +16,7 @@ top = pos largest_weight
 
 -- x moved by d, held within the weights
 unfoldable pub clipped : ℤ → ℤ → ℤ
-clipped d x = if lt_z (x +ℤ d) bottom then bottom else (if lt_z top (x +ℤ d) then top else (x +ℤ d))
+clipped d x = when lt_z (x +ℤ d) bottom then bottom else (when lt_z top (x +ℤ d) then top else (x +ℤ d))
 
 -- the sum of samples that are so moved
 abbrev pub sum_at : ℤ → List ℤ → ℤ
@@ -24,7 +24,7 @@ sum_at d xs = sum_of (map (clipped d) xs)
 
 -- the least mean from low on that is not dismissed
 unfoldable pub undismissed : ℤ → ℤ → ℤ
-undismissed low nearzero = if le_z low nearzero then nearzero +ℤ pos 1 else low
+undismissed low nearzero = when le_z low nearzero then nearzero +ℤ pos 1 else low
 
 -- the grades of the nets from l to h
 unfoldable pub grades_between : Settings → ℤ → ℤ → ℕ

@@ -1,6 +1,6 @@
 -- 01, "Text lines": the line of a reply.
 use Rattle.std.specs.Prelude.{ℕ, List, [], ◌∷◌, ◌++◌, eqb}
-use Rattle.laws.specs.Choice.{if◌then◌else◌}
+use Rattle.laws.specs.Choice.{when◌then◌else◌}
 use Rattle.event.specs.Reply.{no_error}
 use Rattle.event.specs.declared.reply.Done.{Done as DoneFields}
 use Rattle.event.specs.declared.reply.Reply.{Reply}
@@ -10,7 +10,7 @@ use Rattle.decimal.specs.Number.{decimal, number_text}
 use Rattle.print.specs.Text.{line_end, none, field, joined}
 
 abbrev pub error_text : ℕ → List ℕ
-error_text error = if eqb error no_error then none else decimal error
+error_text error = when eqb error no_error then none else decimal error
 
 -- what the line shows after the event
 abbrev pub shown : DoneFields → List (List ℕ)

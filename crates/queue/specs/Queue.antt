@@ -1,7 +1,7 @@
 -- 01's queue of waits. It has eight places: the waits stand in the first n, in the order in which they came; the places
 -- behind them hold 0 and are not read.
 use Rattle.std.specs.Prelude.{ℕ, Bool, ◌&&◌, ◌||◌, not, List, [], ◌∷◌, ◌++◌, map, eqb, leb, length, take}
-use Rattle.laws.specs.Choice.{if◌then◌else◌, within}
+use Rattle.laws.specs.Choice.{when◌then◌else◌, within}
 use Rattle.lists.specs.Each.{any_of, all_of, without}
 use Rattle.lists.specs.Places.{in_places}
 use Rattle.time.specs.Time.{longest, is_time, fallen, ended}
@@ -32,7 +32,7 @@ is_full q = leb places (waiting q)
 
 -- "Each queued wait falls by 1; one that reaches 0 leaves"; an empty queue stays as it is
 unfoldable pub queue_ticked : Queue → Queue
-queue_ticked q = if is_empty q then q else laid (without ended (map fallen (waits_of q)))
+queue_ticked q = when is_empty q then q else laid (without ended (map fallen (waits_of q)))
 
 -- one reaches 0 on this tick
 unfoldable pub one_ends : Queue → Bool
@@ -40,7 +40,7 @@ one_ends q = any_of ended (map fallen (waits_of q))
 
 -- "is queued with wait ts if fewer than 8 wait": it is put last. What is no time is no wait
 unfoldable pub joined : Queue → ℕ → Queue
-joined q ts = if is_full q || not (is_time ts) then q else laid (waits_of q ++ ts ∷ [])
+joined q ts = when is_full q || not (is_time ts) then q else laid (waits_of q ++ ts ∷ [])
 
 -- "at most 8 waits of 1 to 9,999": there 1 is the shortest; for delays, "other times 0 to 9,999", it is 0
 unfoldable pub queue_fit : Queue → ℕ → Bool

@@ -6,7 +6,7 @@ use Prim.Native.Nat.{ℕ, suc}
 use native.Mathlib.Omega.{arith}
 use lib.Dec.{eqb}
 use borrow.Author.Tests.{eqb-true}
-use Rattle.laws.specs.Choice.{if◌then◌else◌}
+use Rattle.laws.specs.Choice.{when◌then◌else◌}
 use Rattle.laws.proofs.Tests.{if_ind, by_cases}
 use Rattle.refusal.specs.Table.{memory_no, status_no, emergency_no, paused_no, contradiction_no, safety_no, occupied_no, nothing_no, table, first_holding}
 use Rattle.refusal.specs.declared.Faults.{Faults}
@@ -63,7 +63,7 @@ pub record NoneHolds (f : Faults) : Type 0 where
   pub occupied : f.occupied ≡ false
   pub nothing : f.nothing ≡ false
 
-passed : (b : Bool) (k x : ℕ) → (if b then suc k else x) ≡ 0 → (b ≡ false) × (x ≡ 0)
+passed : (b : Bool) (k x : ℕ) → (when b then suc k else x) ≡ 0 → (b ≡ false) × (x ≡ 0)
 passed true k x h = absurd (omega arith)
 passed false k x h = (refl, h)
 

@@ -6,7 +6,7 @@ use Rattle.event.specs.Kind.{is_sample, is_run, is_stop, is_cancel, is_setup, is
 use Rattle.event.specs.declared.Event.{Event}
 use Rattle.status.specs.Status.{stopped, running, paused, emergency}
 use Rattle.tallies.specs.Memory.{tallies_length}
-use Rattle.laws.specs.Choice.{if◌then◌else◌}
+use Rattle.laws.specs.Choice.{when◌then◌else◌}
 use Rattle.refusal.specs.Table.{status_no, emergency_no, paused_no}
 
 -- no. 8 memory: "not 100 settings, tallies of a wrong length"; count is the number of settings records
@@ -26,9 +26,9 @@ reads_tally e = is_sample e || is_cancel e
 -- 02, T-07: "Refusal 3 remains for running. In emergency run, stop and setup get 9. Setup while paused gets 10."
 unfoldable pub status_refusal : ℕ → Event → ℕ
 status_refusal s e =
-    if (is_run e || is_setup e || is_store e) && eqb s running then status_no
-    else (if (is_run e || is_stop e || is_setup e) && eqb s emergency then emergency_no
-    else (if is_setup e && eqb s paused then paused_no
+    when (is_run e || is_setup e || is_store e) && eqb s running then status_no
+    else (when (is_run e || is_stop e || is_setup e) && eqb s emergency then emergency_no
+    else (when is_setup e && eqb s paused then paused_no
     else 0))
 
 -- no. 5 safety: "run with a bit of need 0 in the last sample's safety"; input is the lowest required input that is off there, 0 if none is

@@ -1,6 +1,6 @@
 -- 01, "Refusal numbers of the manual's kind": the table, "checked in this order, first one wins".
 use Rattle.std.specs.Prelude.{ℕ, Bool, List, [], ◌∷◌, eqb}
-use Rattle.laws.specs.Choice.{if◌then◌else◌}
+use Rattle.laws.specs.Choice.{when◌then◌else◌}
 use Rattle.refusal.specs.declared.Faults.{Faults}
 
 -- the column "no."
@@ -58,4 +58,4 @@ table f =
 -- the number of the first rule that holds, 0 if none does
 abbrev pub first_holding : List Rule → ℕ
 first_holding [] = 0
-first_holding (r ∷ rs) = if r.holds then r.number else first_holding rs
+first_holding (r ∷ rs) = when r.holds then r.number else first_holding rs

@@ -1,6 +1,6 @@
 -- A session over a block of the input: where its line of text begins and ends, and what has been answered.
 use Rattle.std.specs.Prelude.{ℕ, ◌+◌, ◌≤◌, ◌<◌, ◌≡◌, false, List, ◌++◌, length, take, drop}
-use Rattle.laws.specs.Choice.{if◌then◌else◌}
+use Rattle.laws.specs.Choice.{when◌then◌else◌}
 use Rattle.line.specs.State.{State}
 use Rattle.line.specs.declared.line.Line.{Line}
 use Rattle.blocks.specs.Lines.{NoLf, end_from}
@@ -10,7 +10,7 @@ use Rattle.sessions.specs.declared.block.Session.{Session}
 
 -- where the line of text ends that begins at start, if its answer has room behind at; else the input's end
 abbrev pub stop_at : List ℕ → ℕ → ℕ → ℕ → ℕ
-stop_at input room start at = if no_room room at then length input else end_from input start
+stop_at input room start at = when no_room room at then length input else end_from input start
 
 -- a session's line of text begins and ends there
 abbrev pub Ends : List ℕ → ℕ → Session → Type 0

@@ -6,7 +6,7 @@ use native.Mathlib.Omega.{arith}
 use lib.Dec.{eqb}
 use lib.IntN.{ℤ, ◌-ℤ◌}
 use borrow.Author.Tests.{le-leb, eqb-false}
-use Rattle.laws.specs.Choice.{if◌then◌else◌}
+use Rattle.laws.specs.Choice.{when◌then◌else◌}
 use Rattle.weight.specs.Weight.{is_weight}
 use Rattle.weight.specs.Mean.{rounded, mean_of}
 use Rattle.weight.specs.declared.Figure.TheVariants.{None, Of}
@@ -26,7 +26,7 @@ mean-within t h =
     (λ z. let b = (fit-facts t h).tally.bounds in
     rw z (le-leb _ _ (rounded-within t.sum t.n 999999 (omega (arith, eqb-false t.n 0 z)) (omega arith))))
 
-pub deviation_is : (s target : ℤ) (n : ℕ) → less_target (mean_of s n) target ≡ (if eqb n 0 then None else Of (rounded s n -ℤ target))
+pub deviation_is : (s target : ℤ) (n : ℕ) → less_target (mean_of s n) target ≡ (when eqb n 0 then None else Of (rounded s n -ℤ target))
 deviation_is s target n = by_cases (eqb n 0) (λ z. rw z) (λ z. rw z)
 
 -- a fit record's target is a weight

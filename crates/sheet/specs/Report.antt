@@ -1,6 +1,6 @@
 -- 01, "Every call checks both lengths .. a report only its code's record and tally, for a code out of range neither".
 use Rattle.std.specs.Prelude.{ℕ, Bool, false, ◌&&◌, ◌||◌, not, List, eqb, ℤ, length, get_or}
-use Rattle.laws.specs.Choice.{if◌then◌else◌}
+use Rattle.laws.specs.Choice.{when◌then◌else◌}
 use Rattle.settings.specs.Settings.{blank, record_fit, is_code}
 use Rattle.settings.specs.declared.Settings.{Settings}
 use Rattle.refusal.specs.Table.{table, first_holding}
@@ -44,7 +44,7 @@ abbrev pub refused : ℕ → Report
 refused number = record { number = number; input = 0; sheet = blank_sheet }
 
 abbrev pub unless_refused : ℕ → Sheet → Report
-unless_refused number s = if eqb number 0 then printed s else refused number
+unless_refused number s = when eqb number 0 then printed s else refused number
 
 -- the answer to a report, where count records are lent and r is the code's own
 unfoldable pub report_of : ℕ → Settings → List ℤ → ℕ → Report

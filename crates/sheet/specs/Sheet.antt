@@ -1,6 +1,6 @@
 -- 01, "The sheet's figures": what is printed of what stands under a code, by T-05 the class counts too.
 use Rattle.std.specs.Prelude.{◌-◌, eqb, ℤ, pos, ◌-ℤ◌, replicate}
-use Rattle.laws.specs.Choice.{if◌then◌else◌}
+use Rattle.laws.specs.Choice.{when◌then◌else◌}
 use Rattle.weight.specs.Mean.{rounded, mean_of}
 use Rattle.weight.specs.declared.Figure.{Figure}
 use Rattle.weight.specs.declared.Figure.TheVariants.{None, Of}
@@ -14,7 +14,7 @@ use Rattle.sheet.specs.declared.sheet.Sheet.{Sheet}
 
 -- "For n = 0 max, min, mean, deviation and sdp are none"
 abbrev pub unless_none : Tally → ℤ → Figure
-unless_none t x = if eqb t.n 0 then None else Of x
+unless_none t x = when eqb t.n 0 then None else Of x
 
 -- "Total is all eight counts, ng is total less OK. Mean is S/n, rounded as m; deviation is mean less target, signed."
 unfoldable pub sheet_of : Part → ℤ → Sheet

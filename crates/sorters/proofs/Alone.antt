@@ -9,7 +9,7 @@ use lib.Pow.{pow_pos}
 use lib.Dec.{ltb}
 use lib.ListN.{length, get_or, set, replicate}
 use borrow.Author.Tests.{eqb-true}
-use Rattle.laws.specs.Choice.{if◌then◌else◌, bit}
+use Rattle.laws.specs.Choice.{when◌then◌else◌, bit}
 use Rattle.laws.proofs.Tests.{both}
 use Rattle.lists.specs.Each.{any_of, all_of, any_pair, each_pair}
 use Rattle.mask.specs.Bits.{marked}
@@ -89,15 +89,15 @@ unfolding on_bits on_bit off sorter_off
 off_dark zero = refl
 off_dark (suc n) = rw (off_dark n) refl
 
-twice : (b : Bool) (k : ℕ) → 0 + 2 * (if b then 2 ^ k else 0) ≡ (if b then 2 ^ suc k else 0)
+twice : (b : Bool) (k : ℕ) → 0 + 2 * (when b then 2 ^ k else 0) ≡ (when b then 2 ^ suc k else 0)
 twice true k = omega (arith, pow-succ' 2 k)
 twice false k = refl
 
-one : (b : Bool) → bit b + 2 * 0 ≡ (if b then 2 ^ 0 else 0)
+one : (b : Bool) → bit b + 2 * 0 ≡ (when b then 2 ^ 0 else 0)
 one true = refl
 one false = refl
 
-alone-bits : (n k : ℕ) (s : Sorter) → k < n → on_bits (set (off n) k s) ≡ (if ltb 0 s.on then 2 ^ k else 0)
+alone-bits : (n k : ℕ) (s : Sorter) → k < n → on_bits (set (off n) k s) ≡ (when ltb 0 s.on then 2 ^ k else 0)
 unfolding on_bits on_bit off sorter_off
 alone-bits zero k s p = absurd (omega (arith, p))
 alone-bits (suc n) zero s p = rw (off_dark n) (one (ltb 0 s.on))

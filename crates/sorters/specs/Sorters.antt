@@ -1,6 +1,6 @@
 -- 02, T-01: "The rule of a queue is shown for one sorter and applied to six." A line's sorters are a list, and so is what they are set to.
 use Rattle.std.specs.Prelude.{ℕ, ◌+◌, ◌*◌, Bool, ◌&&◌, List, [], ◌∷◌, ltb, replicate}
-use Rattle.laws.specs.Choice.{if◌then◌else◌, bit}
+use Rattle.laws.specs.Choice.{when◌then◌else◌, bit}
 use Rattle.lists.specs.Each.{any_of, all_of, any_pair, each_pair}
 use Rattle.mask.specs.Bits.{marked}
 use Rattle.device.specs.Sorter.{full, sorting, sorter_ticked, queued, sorter_off, sorter_fit}
@@ -16,7 +16,7 @@ ticked_as s c = sorter_ticked s c.to
 
 -- its "mask has its bit": the verdict enters its queue; "Two-on enters those that hold fewer than 8", as 01 has it of one
 unfoldable pub entered : ℕ → Sorter → SorterSetup → Sorter
-entered v s c = if marked c.sort v then queued s c.ts else s
+entered v s c = when marked c.sort v then queued s c.ts else s
 
 -- "one of those queues holds 8"
 unfoldable pub blocks : ℕ → Sorter → SorterSetup → Bool

@@ -1,6 +1,6 @@
 -- The spreads of a tally in tenths of a division, by request T-06 of 02, and which tally is fit for a report.
 use Rattle.std.specs.Prelude.{Bool, ◌&&◌, ℕ, ◌-◌, ◌*◌, leb, ltb, nat_abs}
-use Rattle.laws.specs.Choice.{if◌then◌else◌}
+use Rattle.laws.specs.Choice.{when◌then◌else◌}
 use Rattle.tally.specs.Tally.{tally_fit}
 use Rattle.tally.specs.declared.tally.Tally.{Tally}
 use Rattle.spread.specs.Root.{root}
@@ -21,7 +21,7 @@ times = 100
 
 -- T-06, sd and sdp in one: "the largest whole s with" s²·n·m ≤ 100·(n·Q - S²). None where m is 0, and of an unfit tally, which a report refuses
 unfoldable pub spread_of : Tally → ℕ → Spread
-spread_of t m = if ltb 0 m && report_fit t then Of (root (t.n * m) (times * apart_of t)) else None
+spread_of t m = when ltb 0 m && report_fit t then Of (root (t.n * m) (times * apart_of t)) else None
 
 -- T-06: "the largest whole s with s²·n·(n-1) ≤ 100·(n·Q - S²)"; 01, "The sheet's figures": "none below n = 2", where n - 1 is 0
 abbrev pub sd_of : Tally → Spread

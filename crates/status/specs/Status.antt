@@ -1,6 +1,6 @@
 -- 01, "Line and memory" and "Events": the line's status and error, and when the conveyor runs.
 use Rattle.std.specs.Prelude.{ℕ, Bool, ◌&&◌, ◌||◌, not, eqb}
-use Rattle.laws.specs.Choice.{if◌then◌else◌}
+use Rattle.laws.specs.Choice.{when◌then◌else◌}
 use Rattle.event.specs.Setup.{bench_mode}
 use Rattle.event.specs.Reply.{no_error}
 
@@ -36,7 +36,7 @@ error_known e =
 
 -- "error 2 for two-on, 5 foreign, 6 crash, 0 a grade"
 unfoldable pub error_for : ℕ → ℕ
-error_for v = if eqb v 7 then 2 else (if eqb v 6 then 5 else (if eqb v 8 then 6 else plain_error))
+error_for v = when eqb v 7 then 2 else (when eqb v 6 then 5 else (when eqb v 8 then 6 else plain_error))
 
 -- "Conveyor is 1 when running, in mode 2 only with nothing in hand."; 02, T-02: "Mode 4 keeps the conveyor at 0"
 unfoldable pub conveyor_runs : ℕ → ℕ → Bool → Bool

@@ -9,7 +9,7 @@ use lib.IntN.{ℤ, pos, nat_abs, ◌+ℤ◌, ◌-ℤ◌, +ℤ_assoc, +ℤ_comm, 
 use lib.ListN.{length}
 use lib.Signed.{le_z}
 use borrow.Author.Tests.{leb-true, le-leb, lt-ltb, eqb-true}
-use Rattle.laws.specs.Choice.{if◌then◌else◌}
+use Rattle.laws.specs.Choice.{when◌then◌else◌}
 use Rattle.laws.proofs.Signed.{abs_add}
 use Rattle.laws.proofs.Tests.{both, and_intro, by_cases}
 use Rattle.lists.specs.Each.{all_of, any_pair, counted}
@@ -118,7 +118,7 @@ module _ (l : Line) (s : Settings) (x z : ℤ) (w : is_weight x ≡ true) where
   added k e g =
       ap (λ (i : Item). (after_weighing l s (weighed i l.setup x)).line) e
       ∙ ap (λ (m : Weighed). (after_weighing l s m).line) (weighed-is l.setup (suc (suc k)) z x g w)
-      ∙ ap (λ (b : Bool). (after_weighing l s (if b then Still (Averaging (suc (suc k) - 1) (z +ℤ x)) else Mean (rounded (z +ℤ x) l.setup.ta))).line) (lt-ltb 1 (suc (suc k)) (omega arith))
+      ∙ ap (λ (b : Bool). (after_weighing l s (when b then Still (Averaging (suc (suc k) - 1) (z +ℤ x)) else Mean (rounded (z +ℤ x) l.setup.ta))).line) (lt-ltb 1 (suc (suc k)) (omega arith))
       ∙ ap (λ (j : ℕ). with_item l (Averaging j (z +ℤ x))) (omega arith)
 
   -- the last one gives the mean

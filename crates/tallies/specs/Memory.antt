@@ -2,7 +2,7 @@
 -- `numbers`, and behind them the 21 class counts of T-05.
 use Rattle.std.specs.Prelude.{ℕ, ◌+◌, ◌*◌, ◌/◌, ◌%◌, Bool, ◌&&◌, List, [], ◌∷◌, ◌++◌, map, leb, eqb, ℤ, pos, nat_abs, length, get_or, set, take, drop, replicate}
 use Rattle.std.specs.Int.Signed.{le_z}
-use Rattle.laws.specs.Choice.{if◌then◌else◌}
+use Rattle.laws.specs.Choice.{when◌then◌else◌}
 use Rattle.settings.specs.Settings.{last_code}
 use Rattle.tally.specs.declared.tally.Tally.{Tally}
 use Rattle.lists.specs.Each.{all_of}
@@ -88,7 +88,7 @@ fit_at ts code = lies ts code && part_at_fit ts code
 
 -- what reading code's part gives
 abbrev pub read_at : List ℤ → ℕ → Part
-read_at ts code = if lies ts code then part_at ts code else empty_part
+read_at ts code = when lies ts code then part_at ts code else empty_part
 
 -- the memory with a part in code's place
 unfoldable pub with_part : List ℤ → ℕ → Part → List ℤ
@@ -96,7 +96,7 @@ with_part ts code p = take (code * part_length) ts ++ (part_numbers p ++ drop (c
 
 -- what writing leaves: an unfit part, code or memory is not written
 abbrev pub written : List ℤ → ℕ → Part → List ℤ
-written ts code p = if lies ts code && part_fit p then with_part ts code p else ts
+written ts code p = when lies ts code && part_fit p then with_part ts code p else ts
 
 -- a tally, and class counts as they are kept
 abbrev pub held : Tally → Classes → Part

@@ -7,7 +7,7 @@ use lib.Dec.{leb, eqb}
 use lib.IntN.{ℤ, nat_abs, ◌+ℤ◌}
 use lib.Signed.{lt_z}
 use borrow.Author.Tests.{leb-true, le-leb, ltb-true, eq-eqb, ne_eqb}
-use Rattle.laws.specs.Choice.{if◌then◌else◌}
+use Rattle.laws.specs.Choice.{when◌then◌else◌}
 use Rattle.weight.specs.Weight.{is_weight}
 use Rattle.laws.proofs.Tests.{both, and_intro, if_ind}
 use Rattle.laws.proofs.Signed.{abs_add}
@@ -29,7 +29,7 @@ module _ (t : Tally) (v : ℕ) (net : ℤ) (f : tally_fit t ≡ true) (verdict :
   unfolding counted_with
   counted-total = omega (arith, below, ones v verdict)
 
-  counted-graded : (k : ℕ) → (if is_grade v then 1 else 0) ≡ k → t.n + k ≡ graded (counted_with t v)
+  counted-graded : (k : ℕ) → (when is_grade v then 1 else 0) ≡ k → t.n + k ≡ graded (counted_with t v)
   unfolding counted_with
   counted-graded k e = omega (arith, facts.grades, grade_ones v, e)
 

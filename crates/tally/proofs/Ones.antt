@@ -5,7 +5,7 @@ use Prim.Native.Nat.{ℕ, zero, suc, ◌+◌}
 use native.Mathlib.Omega.{arith}
 use lib.Dec.{T, leb}
 use borrow.Author.Tests.{leb-true, le-leb, lt-leb, ne_eqb}
-use Rattle.laws.specs.Choice.{if◌then◌else◌, within}
+use Rattle.laws.specs.Choice.{when◌then◌else◌, within}
 use Rattle.laws.proofs.Tests.{both}
 use Rattle.tally.specs.Tally.{one, is_verdict}
 
@@ -25,7 +25,7 @@ ones (suc (suc (suc (suc (suc (suc (suc (suc (suc k))))))))) h =
     absurd (omega (arith, leb-true v 8 (both (leb 1 v) (leb v 8) h).1))
 
 -- and a grade one of the first five
-pub grade_ones : (v : ℕ) → one v 1 + one v 2 + one v 3 + one v 4 + one v 5 ≡ (if within 1 5 v then 1 else 0)
+pub grade_ones : (v : ℕ) → one v 1 + one v 2 + one v 3 + one v 4 + one v 5 ≡ (when within 1 5 v then 1 else 0)
 grade_ones zero = refl
 grade_ones (suc zero) = refl
 grade_ones (suc (suc zero)) = refl

@@ -1,7 +1,7 @@
 -- What the private steps ask and give. Any number may stand in a tally's fields: sums of counts and products of n do not overflow
 -- once each of them is small.
 use Rattle.std.specs.Prelude.{◌*◌, ◌≤◌, Bool, true, ◌&&◌, leb, eqb, nat_abs}
-use Rattle.laws.specs.Choice.{if◌then◌else◌}
+use Rattle.laws.specs.Choice.{when◌then◌else◌}
 use Rattle.weight.specs.Weight.{largest_weight}
 use Rattle.tally.specs.Tally.{tally_limit, largest_square}
 use Rattle.tally.specs.declared.tally.Tally.{Tally}
@@ -32,4 +32,4 @@ pub record Bounded (t : Tally) : Type 0 where
 
 -- "0 at n = 0"
 abbrev pub none_is_zero : Tally → Bool
-none_is_zero t = if eqb t.n 0 then eqb (nat_abs t.largest) 0 && eqb (nat_abs t.smallest) 0 else true
+none_is_zero t = when eqb t.n 0 then eqb (nat_abs t.largest) 0 && eqb (nat_abs t.smallest) 0 else true

@@ -2,7 +2,7 @@
 -- Verdicts have the numbers 1 LoLo, 2 Lo, 3 OK, 4 Hi, 5 HiHi (the grades), 6 foreign, 7 two-on, 8 crash.
 use Rattle.std.specs.Prelude.{ℕ, ◌+◌, ◌*◌, Bool, true, ◌&&◌, leb, ltb, eqb, ℤ, pos, nat_abs, ◌+ℤ◌}
 use Rattle.std.specs.Int.Signed.{lt_z}
-use Rattle.laws.specs.Choice.{if◌then◌else◌, within}
+use Rattle.laws.specs.Choice.{when◌then◌else◌, within}
 use Rattle.weight.specs.Weight.{largest_weight, is_weight}
 use Rattle.tally.specs.declared.tally.Tally.{Tally}
 use Rattle.tally.specs.declared.tally.Noted.{Noted}
@@ -50,7 +50,7 @@ tally_fit t =
     && leb (nat_abs t.sum) (t.n * largest_weight)
     && leb t.squares (t.n * largest_square)
     && is_weight t.largest && is_weight t.smallest
-    && (if eqb t.n 0 then eqb (nat_abs t.largest) 0 && eqb (nat_abs t.smallest) 0 else true)
+    && (when eqb t.n 0 then eqb (nat_abs t.largest) 0 && eqb (nat_abs t.smallest) 0 else true)
 
 -- "At 999,999 verdicts a further one is given but not tallied."
 unfoldable pub has_room : Tally → Bool
@@ -66,14 +66,14 @@ is_grade v = within 1 5 v
 
 -- 1 for verdict v itself, 0 for another
 abbrev pub one : ℕ → ℕ → ℕ
-one v k = if eqb v k then 1 else 0
+one v k = when eqb v k then 1 else 0
 
 -- "the first graded verdict sets both"
 unfoldable pub largest_with : Tally → ℤ → ℤ
-largest_with t net = if eqb t.n 0 then net else (if lt_z t.largest net then net else t.largest)
+largest_with t net = when eqb t.n 0 then net else (when lt_z t.largest net then net else t.largest)
 
 unfoldable pub smallest_with : Tally → ℤ → ℤ
-smallest_with t net = if eqb t.n 0 then net else (if lt_z net t.smallest then net else t.smallest)
+smallest_with t net = when eqb t.n 0 then net else (when lt_z net t.smallest then net else t.smallest)
 
 -- one more of verdict v among the eight counts
 unfoldable pub counted_with : Tally → ℕ → Tally
@@ -115,7 +115,7 @@ weighed_with t net =
 
 -- a tally with one more verdict
 unfoldable pub added : Tally → ℕ → ℤ → Tally
-added t v net = if is_grade v then weighed_with (counted_with t v) net else counted_with t v
+added t v net = when is_grade v then weighed_with (counted_with t v) net else counted_with t v
 
 -- a tally takes a verdict with its net: all three are fit, and there is room
 unfoldable pub takes : Tally → ℕ → ℤ → Bool
@@ -124,4 +124,4 @@ takes t v net = tally_fit t && is_verdict v && is_weight net && has_room t
 -- a verdict tallied; or given but not tallied, which leaves the tally
 unfoldable pub noted_of : Tally → ℕ → ℤ → Noted
 noted_of t v net =
-    if takes t v net then record { taken = 1; tally = added t v net } else record { taken = 0; tally = t }
+    when takes t v net then record { taken = 1; tally = added t v net } else record { taken = 0; tally = t }

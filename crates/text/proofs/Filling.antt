@@ -10,7 +10,7 @@ use lib.IntN.{ℤ}
 use native.Mathlib.Omega.{arith}
 use native.Mathlib.Numerals.{add-one}
 use borrow.Author.Tests.{leb-true, leb-false, eq-eqb, not-true}
-use Rattle.laws.specs.Choice.{if◌then◌else◌}
+use Rattle.laws.specs.Choice.{when◌then◌else◌}
 use Rattle.laws.proofs.Tests.{both, by_cases, never}
 use Rattle.numeral.specs.Number.{Head, none, some, number_head, four_head, hold}
 use Rattle.text.specs.Form.{Item, byte, number, four, Values, other, values, also, and_rest, line_values, value_count}
@@ -53,8 +53,8 @@ value-item : (c : ℕ) (form : List Item) (s : List ℕ) → is_literal c ≡ fa
 value-item c form s h = go (eqb c 35) (eqb c 36) h
   where
     go : (t u : Bool) → not t && not u ≡ false
-        → (line_values ((if t then number else (if u then four else byte c)) ∷ form) s ≡ and_rest (line_values form) (if t then number_head s else four_head s))
-        × (value_count ((if t then number else (if u then four else byte c)) ∷ form) ≡ suc (value_count form))
+        → (line_values ((when t then number else (when u then four else byte c)) ∷ form) s ≡ and_rest (line_values form) (when t then number_head s else four_head s))
+        × (value_count ((when t then number else (when u then four else byte c)) ∷ form) ≡ suc (value_count form))
     go true u h = (refl, refl)
     go false true h = (refl, refl)
     go false false h = never (sym h)
@@ -129,7 +129,7 @@ firsts-taken (suc n) (v ∷ vs) h = ap (λ (ws : List ℤ). v ∷ ws) (firsts-ta
 
 -- behind the last item the line must end
 module _ {line form : List ℕ} {vs : List ℤ} {count at k : ℕ} (st : State line form vs count at k) (h : length form ≤ k) (few : value_count (items_of form) ≤ most_values) where
-  pub ended : (if leb (length line) at then values (firsts (value_count (items_of form)) (value vs)) else other) ≡ held (line_values (items_of form) line)
+  pub ended : (when leb (length line) at then values (firsts (value_count (items_of form)) (value vs)) else other) ≡ held (line_values (items_of form) line)
   ended =
       let n : count + 0 ≡ value_count (items_of form) = rw (drop_of_length-le form h) at st.left in
       let m : value_count (items_of form) ≡ count = omega arith in

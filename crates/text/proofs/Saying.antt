@@ -9,7 +9,7 @@ use lib.Seq.{drop-drop}
 use native.Mathlib.Omega.{arith}
 use lib.Dec.{eqb}
 use borrow.Author.Tests.{ne_eqb}
-use Rattle.laws.specs.Choice.{if◌then◌else◌}
+use Rattle.laws.specs.Choice.{when◌then◌else◌}
 use Rattle.laws.proofs.Tests.{by_cases, never}
 use Rattle.event.specs.declared.Event.{Event}
 use Rattle.text.specs.Form.{Item, byte, word_items, Values, other, values, line_values}
@@ -20,7 +20,7 @@ use Rattle.text.specs.declared.Read.TheVariants as read
 
 -- a kind of n values, as `read_form` answers
 module _ (k : Kind) (n : ℕ) (more : List Kind) (s : List ℕ) (r : Fields)
-    (e : (if r.ok then values (firsts n (at r.values)) else other) ≡ held (line_values k.form s)) where
+    (e : (when r.ok then values (firsts n (at r.values)) else other) ≡ held (line_values k.form s)) where
   pub has_not : r.ok ≡ false → first_of (k ∷ more) s ≡ first_of more s
   has_not o = sym (ap (λ (w : Values). says w k.means (first_of more s)) e) ∙ rw o
 
@@ -34,7 +34,7 @@ word_length [] (b ∷ s) h = never h
 word_length (c ∷ word) [] h = never h
 word_length (c ∷ word) (b ∷ s) h = go (eqb b c) h (λ e. word_length word s e)
   where
-    go : (t : Bool) → reads (if t then line_values (map byte word) s else other) ≡ true → (reads (line_values (map byte word) s) ≡ true → length s ≡ length word)
+    go : (t : Bool) → reads (when t then line_values (map byte word) s else other) ≡ true → (reads (line_values (map byte word) s) ≡ true → length s ≡ length word)
         → suc (length s) ≡ suc (length word)
     go true h more = ap suc (more h)
     go false h more = never h
@@ -50,7 +50,7 @@ word_reads (w ∷ x ∷ []) a b c d h = absurd (omega arith)
 word_reads (w ∷ x ∷ y ∷ []) a b c d h = absurd (omega arith)
 word_reads (w ∷ x ∷ y ∷ z ∷ []) a b c d h = go (eqb w a) (eqb x b) (eqb y c) (eqb z d)
   where
-    go : (p q r t : Bool) → p && (q && (r && t)) ≡ reads (if p then (if q then (if r then (if t then values [] else other) else other) else other) else other)
+    go : (p q r t : Bool) → p && (q && (r && t)) ≡ reads (when p then (when q then (when r then (when t then values [] else other) else other) else other) else other)
     go true true true true = refl
     go true true true false = refl
     go true true false t = refl

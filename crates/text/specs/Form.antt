@@ -2,7 +2,7 @@
 use Rattle.std.specs.Prelude.{ℕ, suc, List, [], ◌∷◌, ◌++◌, eqb, ℤ}
 use Prim.Native.Char.{code}
 use Prim.Native.String.{String, [] as empty, ◌∷◌ as ◌then◌}
-use Rattle.laws.specs.Choice.{if◌then◌else◌}
+use Rattle.laws.specs.Choice.{when◌then◌else◌}
 use Rattle.decimal.specs.Number.{number_text}
 use Rattle.numeral.specs.Number.{Head, none, some, number_head, four_head, four_text}
 
@@ -49,7 +49,7 @@ abbrev pub line_values : List Item → List ℕ → Values
 line_values [] [] = values []
 line_values [] (b ∷ s) = other
 line_values (byte c ∷ form) [] = other
-line_values (byte c ∷ form) (b ∷ s) = if eqb b c then line_values form s else other
+line_values (byte c ∷ form) (b ∷ s) = when eqb b c then line_values form s else other
 line_values (number ∷ form) s = and_rest (line_values form) (number_head s)
 line_values (four ∷ form) s = and_rest (line_values form) (four_head s)
 

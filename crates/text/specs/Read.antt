@@ -1,7 +1,7 @@
 -- 01, "Text lines": what a line says.
 use Rattle.std.specs.Prelude.{ℕ, ◌+◌, List, [], ◌∷◌, ◌++◌, map, length, get_or, leb, ℤ, pos}
 use Prim.Native.String.{String}
-use Rattle.laws.specs.Choice.{if◌then◌else◌}
+use Rattle.laws.specs.Choice.{when◌then◌else◌}
 use Rattle.settings.specs.declared.Settings.{Settings}
 use Rattle.event.specs.declared.Setup.{Setup}
 use Rattle.event.specs.declared.SorterSetup.{SorterSetup}
@@ -125,4 +125,4 @@ abbrev pub longest_line : ℕ
 longest_line = 300
 
 abbrev pub read_line : List ℕ → Read
-read_line s = if leb (length s) longest_line then first_of kinds s else read.Other
+read_line s = when leb (length s) longest_line then first_of kinds s else read.Other

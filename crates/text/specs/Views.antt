@@ -1,7 +1,7 @@
 -- The reader's parts in the terms of `Form`.
 use Rattle.std.specs.Prelude.{ℕ, zero, suc, Bool, true, false, not, ◌&&◌, ◌||◌, List, [], ◌∷◌, map, drop, eqb, ℤ}
 use Prim.Native.Char.{code}
-use Rattle.laws.specs.Choice.{if◌then◌else◌}
+use Rattle.laws.specs.Choice.{when◌then◌else◌}
 use Rattle.decimal.specs.Bytes.{bytes, digit_byte}
 use Rattle.numeral.specs.Number.{Head, number_head, four_head}
 use Rattle.text.specs.Form.{Item, byte, number, four, Values, other, values, value_count}
@@ -13,14 +13,14 @@ abbrev pub is_literal : ℕ → Bool
 is_literal b = not (eqb b (code "#")) && not (eqb b (code "$"))
 
 abbrev pub item_of : ℕ → Item
-item_of b = if eqb b (code "#") then number else (if eqb b (code "$") then four else byte b)
+item_of b = when eqb b (code "#") then number else (when eqb b (code "$") then four else byte b)
 
 abbrev pub items_of : List ℕ → List Item
 items_of form = map item_of form
 
 -- what an item that has a value finds at the head of a text
 abbrev pub value_head : ℕ → List ℕ → Head
-value_head b s = if eqb b (code "#") then number_head s else four_head s
+value_head b s = when eqb b (code "#") then number_head s else four_head s
 
 -- setup's: no form has more
 abbrev pub most_values : ℕ
@@ -33,7 +33,7 @@ firsts (suc n) value = value 0 ∷ firsts n (λ i. value (suc i))
 
 -- the values that the reader gives for a form
 abbrev pub fields_values : List ℕ → Fields → Values
-fields_values form r = if r.ok then values (firsts (value_count (items_of form)) (at r.values)) else other
+fields_values form r = when r.ok then values (firsts (value_count (items_of form)) (at r.values)) else other
 
 abbrev pub reads : Values → Bool
 reads other = false

@@ -1,6 +1,6 @@
 -- 01: what a verdict and its cancel do to what stands under a code, and what is kept between them.
 use Rattle.std.specs.Prelude.{ℕ, Bool, ◌&&◌, ◌||◌, List, eqb, ℤ}
-use Rattle.laws.specs.Choice.{if◌then◌else◌}
+use Rattle.laws.specs.Choice.{when◌then◌else◌}
 use Rattle.tally.specs.Tally.{empty_tally}
 use Rattle.tally.specs.declared.tally.Tally.{Tally}
 use Rattle.part.specs.Classes.{packed, none_counted}
@@ -38,12 +38,12 @@ takes_at ts c v net target = fit_at ts c && takes_in (part_at ts c) v net target
 
 -- what is kept of a verdict: the code's part as before it, if it was tallied; "tallied" is then 1
 abbrev pub kept_of : List ℤ → ℕ → ℕ → ℤ → ℤ → Undo
-kept_of ts c v net target = if takes_at ts c v net target then kept (part_at ts c) else nothing
+kept_of ts c v net target = when takes_at ts c v net target then kept (part_at ts c) else nothing
 
 -- the tallies after a verdict
 abbrev pub noted_in : List ℤ → ℕ → ℕ → ℤ → ℤ → List ℤ
-noted_in ts c v net target = if takes_at ts c v net target then with_part ts c (added_part (part_at ts c) v net target) else ts
+noted_in ts c v net target = when takes_at ts c v net target then with_part ts c (added_part (part_at ts c) v net target) else ts
 
 -- "Cancel puts back the active code's tally as before the last verdict."; what is unfit is not written
 abbrev pub put_back : List ℤ → ℕ → Undo → List ℤ
-put_back ts c u = if no_chance u then ts else written ts c (kept_part u)
+put_back ts c u = when no_chance u then ts else written ts c (kept_part u)

@@ -7,7 +7,7 @@ use lib.Dec.{ltb, eqb}
 use lib.IntN.{ℤ, pos, negsuc, neg_ℤ, nat_abs}
 use lib.Signed.{le_z, lt_z}
 use borrow.Author.Tests.{ltb-true, ltb-false, le-ltb, lt-ltb, eqb-true, eqb-false, ne_eqb, le-leb, lt-leb}
-use Rattle.laws.specs.Choice.{if◌then◌else◌}
+use Rattle.laws.specs.Choice.{when◌then◌else◌}
 use Rattle.laws.proofs.Signed.{not_neg}
 use Rattle.laws.proofs.Tests.{both, and_intro, by_cases}
 use Rattle.weight.specs.Mean.{nearest, rounded}
@@ -28,7 +28,7 @@ negative (negsuc a) h = refl
 
 -- below, at or above n: a choice by tests one after another
 thirds : (x n : ℕ) {A : Type 0} → A → A → A → A
-thirds x n a b c = if ltb x n then a else (if eqb x n then b else c)
+thirds x n a b c = when ltb x n then a else (when eqb x n then b else c)
 
 module _ (x n : ℕ) {A : Type 0} (a b c : A) where
   at-below : ltb x n ≡ true → thirds x n a b c ≡ a
@@ -57,13 +57,13 @@ module _ (s : ℤ) (n : ℕ) where
   -- a case that holds is the one that the tests choose
   chosen : Case
   chosen =
-      if le_z (pos 0) s then thirds twice n Below Half Above
+      when le_z (pos 0) s then thirds twice n Below Half Above
       else thirds twice n NegativeBelow NegativeHalf NegativeAbove
 
-  at_least : {A : Type 0} (x y : A) → le_z (pos 0) s ≡ true → (if le_z (pos 0) s then x else y) ≡ x
+  at_least : {A : Type 0} (x y : A) → le_z (pos 0) s ≡ true → (when le_z (pos 0) s then x else y) ≡ x
   at_least x y h = simp h
 
-  below_zero : {A : Type 0} (x y : A) → lt_z s (pos 0) ≡ true → (if le_z (pos 0) s then x else y) ≡ y
+  below_zero : {A : Type 0} (x y : A) → lt_z s (pos 0) ≡ true → (when le_z (pos 0) s then x else y) ≡ y
   below_zero x y h = simp (not_at_least s h)
 
   is-chosen : (c : Case) → holds c s n ≡ true → c ≡ chosen

@@ -1,12 +1,12 @@
 -- 01, "Events", step 6, and "The sheet's figures": a sum over a number, "to the nearest, halves away from zero".
 use Rattle.std.specs.Prelude.{ℕ, ◌+◌, ◌*◌, ◌/◌, ◌%◌, leb, eqb, ℤ, pos, negsuc, neg_ℤ, nat_abs}
-use Rattle.laws.specs.Choice.{if◌then◌else◌}
+use Rattle.laws.specs.Choice.{when◌then◌else◌}
 use Rattle.weight.specs.declared.Figure.{Figure}
 use Rattle.weight.specs.declared.Figure.TheVariants.{None, Of}
 
 -- m over n: the whole quotient, and one more from half on
 unfoldable pub nearest : ℕ → ℕ → ℕ
-nearest m n = if leb n (2 * (m % n)) then m / n + 1 else m / n
+nearest m n = when leb n (2 * (m % n)) then m / n + 1 else m / n
 
 -- q with the sign of z
 abbrev pub with_sign : ℤ → ℕ → ℤ
@@ -19,4 +19,4 @@ rounded s n = with_sign s (nearest (nat_abs s) n)
 
 -- a mean is none where there is nothing to divide by
 abbrev pub mean_of : ℤ → ℕ → Figure
-mean_of s n = if eqb n 0 then None else Of (rounded s n)
+mean_of s n = when eqb n 0 then None else Of (rounded s n)

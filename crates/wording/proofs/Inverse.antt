@@ -9,7 +9,7 @@ use lib.ListN.{length}
 use native.Mathlib.Omega.{arith}
 use borrow.Author.Tests.{le-leb, eq-eqb, ne_eqb, leb-true, eqb-true}
 use Prim.Native.String.{String, [] as empty, ◌∷◌ as ◌then◌}
-use Rattle.laws.specs.Choice.{if◌then◌else◌, within}
+use Rattle.laws.specs.Choice.{when◌then◌else◌, within}
 use Rattle.laws.proofs.Tests.{both, clash, never}
 use Rattle.decimal.specs.Number.{decimal, number_text}
 use Rattle.decimal.proofs.Digits.{decimal_digit, decimal-more, by_digits}
@@ -156,7 +156,7 @@ digits-back : (below : Bool) (n : ℕ) (s : List ℕ) (v : ℤ) (rest : List ℕ
 digits-back below n [] v rest p h = record { total = n; above = p; is = cc; same = cc }
 digits-back below n (b ∷ s) v rest p h = go (is_digit b) refl h (λ e. digits-back below (n * 10 + (b - 48)) s v rest (omega arith) e)
   where
-    go : (t : Bool) → is_digit b ≡ t → (if t then digits below (n * 10 + (b - 48)) s else some (signed below n) (b ∷ s)) ≡ some v rest
+    go : (t : Bool) → is_digit b ≡ t → (when t then digits below (n * 10 + (b - 48)) s else some (signed below n) (b ∷ s)) ≡ some v rest
         → (digits below (n * 10 + (b - 48)) s ≡ some v rest → Written below (decimal (n * 10 + (b - 48)) ++ s) v rest) → Written below (decimal n ++ b ∷ s) v rest
     go true e h more =
         let r = more h in
@@ -170,7 +170,7 @@ positive_back : (below : Bool) (s : List ℕ) (v : ℤ) (rest : List ℕ) → po
 positive_back below [] v rest h = clash (cc)
 positive_back below (b ∷ s) v rest h = go (within 49 57 b) refl h
   where
-    go : (t : Bool) → within 49 57 b ≡ t → (if t then digits below (b - 48) s else none) ≡ some v rest → Written below (b ∷ s) v rest
+    go : (t : Bool) → within 49 57 b ≡ t → (when t then digits below (b - 48) s else none) ≡ some v rest → Written below (b ∷ s) v rest
     go false e h = clash (cc)
     go true e h =
         let q = both (leb 49 b) (leb b 57) e in
@@ -191,7 +191,7 @@ text_of_head [] v rest h = clash (cc)
 text_of_head (b ∷ s) v rest h = go (eqb b 48) (eqb b 45) refl refl h
   where
     go : (t u : Bool) → eqb b 48 ≡ t → eqb b 45 ≡ u
-        → (if t then some (pos 0) s else (if u then positive true s else positive false (b ∷ s))) ≡ some v rest → b ∷ s ≡ number_text v ++ rest
+        → (when t then some (pos 0) s else (when u then positive true s else positive false (b ∷ s))) ≡ some v rest → b ∷ s ≡ number_text v ++ rest
     go true u e f h =
         let ev : pos 0 ≡ v = cc in
         let es : s ≡ rest = cc in
@@ -212,7 +212,7 @@ text_of_four (a ∷ b ∷ []) v rest h = clash (cc)
 text_of_four (a ∷ b ∷ c ∷ []) v rest h = clash (cc)
 text_of_four (a ∷ b ∷ c ∷ d ∷ s) v rest h = go (four_digits a b c d) refl h
   where
-    go : (t : Bool) → four_digits a b c d ≡ t → (if t then some (pos (four_number a b c d)) s else none) ≡ some v rest → a ∷ b ∷ c ∷ d ∷ s ≡ four_text v ++ rest
+    go : (t : Bool) → four_digits a b c d ≡ t → (when t then some (pos (four_number a b c d)) s else none) ≡ some v rest → a ∷ b ∷ c ∷ d ∷ s ≡ four_text v ++ rest
     go false e h = clash (cc)
     go true e h =
         let f = four-bounds a b c d e in
@@ -255,7 +255,7 @@ text_of_values [] (b ∷ s) vs h = clash (cc)
 text_of_values (byte c ∷ form) [] vs h = clash (cc)
 text_of_values (byte c ∷ form) (b ∷ s) vs h = go (eqb b c) refl h (λ e. text_of_values form s vs e)
   where
-    go : (t : Bool) → eqb b c ≡ t → (if t then line_values form s else other) ≡ values vs → (line_values form s ≡ values vs → s ≡ line_text form vs) → b ∷ s ≡ c ∷ line_text form vs
+    go : (t : Bool) → eqb b c ≡ t → (when t then line_values form s else other) ≡ values vs → (line_values form s ≡ values vs → s ≡ line_text form vs) → b ∷ s ≡ c ∷ line_text form vs
     go true e h more = let f : b ≡ c = eqb-true b c e in let g = more h in cc
     go false e h more = clash (cc)
 text_of_values (number ∷ form) s vs h =

@@ -6,7 +6,7 @@ use native.Mathlib.Omega.{arith}
 use lib.Dec.{eqb}
 use lib.ListN.{length}
 use borrow.Author.Tests.{eq-eqb, eqb-true, lt-ltb, le-ltb}
-use Rattle.laws.specs.Choice.{if◌then◌else◌}
+use Rattle.laws.specs.Choice.{when◌then◌else◌}
 use Rattle.laws.proofs.Tests.{by_cases}
 use Rattle.event.specs.declared.Event.TheVariants.{Cancel}
 use Rattle.book.specs.Book.{Verdict, Book, has_place, entered, commanded}
@@ -23,7 +23,7 @@ undone b v k h =
     (λ n. rw n refl))
 
 -- what was put under a code is there
-put-there : {A : Type 0} (c : ℕ) (x y : A) → (if eqb c c then x else y) ≡ x
+put-there : {A : Type 0} (c : ℕ) (x y : A) → (when eqb c c then x else y) ≡ x
 put-there c x y = rw (eq-eqb c c refl) refl
 
 laws-hold : Laws
