@@ -1,3 +1,4 @@
 pub mod Values
 pub mod Names
 pub mod Refusing
+pub mod Long

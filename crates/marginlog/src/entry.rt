@@ -67,6 +67,7 @@ fn read_margin(line: &[u8]) -> Entry
     }
 }
 
+#[tactic(auto, using(crate::proofs::Long::too_long))]
 pub fn read_entry(line: &[u8]) -> Entry
     ensures { result ≡ read_entry line.now }
 {

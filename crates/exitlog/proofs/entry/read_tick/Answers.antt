@@ -2,10 +2,15 @@
 use borrow.Author.Rules.{rules}
 use mathlib.Core.Path.{◌≡◌, ◌∙◌}
 use mathlib.Core.Bool.{true, false}
+use native.Mathlib.Omega.{arith}
+use mir.Syntax.{w64}
+use mir.Val.{to_z, of_z}
 use lib.IntN.{pos}
 use lib.Signed.{lt_z}
 use Rattle.laws.proofs.Signed.{back}
-use Rattle.field.proofs.Fields.{number-held}
+use lib.ListN.{drop}
+use Rattle.field.specs.Field.{field_head}
+use Rattle.field.proofs.Fields.{Number, number-held}
 use Rattle.exitlog.proofs.Fields.{tick-none, tick-more, tick-below, plain, tick-plain}
 use Rattle.exitlog.proofs.entry.read_tick.Goals as goal
 
@@ -24,24 +29,26 @@ pub returns-then-value-lt0 : goal.returns-then-value-lt0
 returns-then-value-lt0 c =
     let a = c.args in
     let v = c.in-Value in
-    let n = number-held _ _ _ (rw v.is at c.read_field.ensures) in
+    let n : Number (field_head a.key.now a.line.now) v.value (drop v.next a.line.now) = number-held _ _ _ (rw v.is at c.read_field.ensures) in
     let below : lt_z v.value (pos 0) ≡ true = rw (back v.value (search rules)) at c.if-value-lt0.true in
-    tick-below a.key.now a.line.now v.value v.next n c.if-next-line.false below
+    tick-below a.key.now a.line.now v.value v.next n (omega arith) below
 
 -- the number has no sign, and nothing stands behind it
 pub exact-requires : goal.exact-requires
 exact-requires c =
     let a = c.args in
     let v = c.in-Value in
-    let n = number-held _ _ _ (rw v.is at c.read_field.ensures) in
-    let plainly : lt_z v.value (pos 0) ≡ false = rw (back v.value (search rules)) at c.if-value-lt0.false in
-    plain a.key.now a.line.now v.value v.next n c.if-next-line.false plainly
+    let n : Number (field_head a.key.now a.line.now) v.value (drop v.next a.line.now) = number-held _ _ _ (rw v.is at c.read_field.ensures) in
+    let plainly : lt_z (to_z w64 (of_z w64 v.value)) (pos 0) ≡ false = search rules in
+    let plain_value : lt_z v.value (pos 0) ≡ false = rw (back v.value (search rules)) at plainly in
+    plain a.key.now a.line.now v.value v.next n (omega arith) plain_value
 
 pub returns : goal.returns
 returns c =
     let a = c.args in
     let v = c.in-Value in
-    let n = number-held _ _ _ (rw v.is at c.read_field.ensures) in
-    let plainly : lt_z v.value (pos 0) ≡ false = rw (back v.value (search rules)) at c.if-value-lt0.false in
-    let p = plain a.key.now a.line.now v.value v.next n c.if-next-line.false plainly in
-    c.exact.ensures p ∙ tick-plain a.key.now a.line.now v.value v.next n c.if-next-line.false plainly
+    let n : Number (field_head a.key.now a.line.now) v.value (drop v.next a.line.now) = number-held _ _ _ (rw v.is at c.read_field.ensures) in
+    let plainly : lt_z (to_z w64 (of_z w64 v.value)) (pos 0) ≡ false = search rules in
+    let plain_value : lt_z v.value (pos 0) ≡ false = rw (back v.value (search rules)) at plainly in
+    let p = plain a.key.now a.line.now v.value v.next n (omega arith) plain_value in
+    c.exact.ensures p ∙ tick-plain a.key.now a.line.now v.value v.next n (omega arith) plain_value

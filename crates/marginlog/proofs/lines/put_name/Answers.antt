@@ -20,4 +20,4 @@ returns c room =
     let first = c.text_at-next in
     let v = first.ensures.wrote (omega (arith, room)) in
     let w = c.text_at-2.ensures.wrote (omega (arith, room, v.place, first.auto.out)) in
-    rw (c.if-not-possible.false, ne_eqb c.args.at start c.if-at-eq-START.false) (wrote_in (omega arith) (wrote_then v w))
+    rw (c.if-not-possible.false, ne_eqb c.args.at start (λ e. omega (arith, e))) (wrote_in (omega arith) (wrote_then v w))
