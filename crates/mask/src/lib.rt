@@ -5,6 +5,7 @@ ghost use Rattle.std.specs.Prelude.{◌≡◌};
 ghost use Rattle.mask.specs.Bits.{marked, lowest_off};
 
 // Whether a mask has the bit of this verdict, 1 (LoLo, bit 7) to 8 (crash, bit 0).
+#[tactic(auto, unfolding(crate::specs::Bits::marked))]
 pub fn has(mask: u64, verdict: u64) -> bool
     ensures { result ≡ marked mask verdict }
 {

@@ -6,6 +6,7 @@ use crate::{EMERGENCY, PAUSED, STATUS};
 use event::Event;
 
 // 8 memory: not a hundred records, or tallies of a wrong length.
+#[tactic(auto, unfolding(crate::specs::Rows::lengths_wrong))]
 pub fn lengths_wrong(count: u64, tallies: &[i64]) -> bool
     ensures { result ≡ lengths_wrong count tallies.now }
 {
@@ -13,6 +14,7 @@ pub fn lengths_wrong(count: u64, tallies: &[i64]) -> bool
 }
 
 // The event's check covers the active record, and the active tally.
+#[tactic(auto, unfolding(crate::specs::Rows::reads_record))]
 pub fn reads_record(e: Event) -> bool
     ensures { result ≡ reads_record e }
 {
@@ -20,6 +22,7 @@ pub fn reads_record(e: Event) -> bool
     (kind == Event::RUN) | (kind == Event::SAMPLE)
 }
 
+#[tactic(auto, unfolding(crate::specs::Rows::reads_tally))]
 pub fn reads_tally(e: Event) -> bool
     ensures { result ≡ reads_tally e }
 {
@@ -28,6 +31,7 @@ pub fn reads_tally(e: Event) -> bool
 }
 
 // 3 status, 9 emergency or 10 paused: why the status refuses the event; 0 if it does not.
+#[tactic(auto, unfolding(crate::specs::Rows::status_refusal))]
 pub fn status_refusal(status: u64, e: Event) -> u64
     ensures { result ≡ status_refusal status e }
 {
@@ -47,6 +51,7 @@ pub fn status_refusal(status: u64, e: Event) -> u64
 }
 
 // 5 safety: `input` is the lowest required input that is off in the last sample, 0 if none is.
+#[tactic(auto, unfolding(crate::specs::Rows::run_unsafe))]
 pub fn run_unsafe(input: u64, e: Event) -> bool
     ensures { result ≡ run_unsafe input e }
 {
@@ -54,6 +59,7 @@ pub fn run_unsafe(input: u64, e: Event) -> bool
 }
 
 // 6 occupied: nearzero is the active code's, gross the last sample's, in divisions.
+#[tactic(auto, unfolding(crate::specs::Rows::run_occupied))]
 pub fn run_occupied(status: u64, nearzero: i64, gross: i64, e: Event) -> bool
     ensures { result ≡ run_occupied status nearzero gross e }
 {
@@ -61,6 +67,7 @@ pub fn run_occupied(status: u64, nearzero: i64, gross: i64, e: Event) -> bool
 }
 
 // 7 nothing: `none` where there is no chance to cancel.
+#[tactic(auto, unfolding(crate::specs::Rows::nothing_to_cancel))]
 pub fn nothing_to_cancel(none: bool, e: Event) -> bool
     ensures { result ≡ nothing_to_cancel none e }
 {

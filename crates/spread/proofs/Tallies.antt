@@ -40,7 +40,7 @@ spread-largest t m f g h =
     let p = mul-pos {m = t.n} {n = m} g h in
     record { s = root (t.n * m) (times * apart_of t); is = rw (lt-ltb 0 m h, f); largest = root-largest _ _ p; only = λ r. root-only _ _ r p }
 
-spread_none : (t : Tally) (m : ℕ) → m ≤ 0 → spread_of t m ≡ None
+pub spread_none : (t : Tally) (m : ℕ) → m ≤ 0 → spread_of t m ≡ None
 unfolding spread_of
 spread_none t m h = rw (le-ltb 0 m h)
 

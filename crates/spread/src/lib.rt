@@ -37,6 +37,7 @@ pub fn fit(t: Tally) -> bool
 }
 
 // The spread of a sample, over n * (n - 1).
+#[tactic(auto, using(crate::proofs::Tallies::spread_none))]
 pub fn sd(t: Tally) -> Spread
     ensures { result ≡ sd_of t }
 {

@@ -67,6 +67,7 @@ impl Tally {
         }
     }
 
+    #[tactic(auto, using(crate::proofs::Facts::large_unfit))]
     pub fn fit(self) -> bool
         ensures { result ≡ tally_fit self }
     {
@@ -83,6 +84,7 @@ impl Tally {
     }
 
     // A verdict is tallied if there is room; the line asks only with a fit tally.
+    #[tactic(auto, unfolding(crate::specs::Tally::noted_of))]
     pub fn noted(self, verdict: u64, net: i64) -> Noted
         ensures { result ≡ noted_of self verdict net }
     {
@@ -99,6 +101,7 @@ impl Tally {
         }
     }
 
+    #[tactic(auto, unfolding(crate::specs::Tally::takes))]
     fn takes(self, verdict: u64, net: i64) -> bool
         ensures { result ≡ takes self verdict net }
     {
@@ -154,6 +157,7 @@ impl Tally {
         true
     }
 
+    #[tactic(auto, unfolding(crate::specs::Tally::has_room))]
     fn has_room(self) -> bool
         requires { Small self }
         ensures { result ≡ has_room self }
@@ -161,6 +165,7 @@ impl Tally {
         self.total() < Tally::LIMIT
     }
 
+    #[tactic(auto, unfolding(crate::specs::Tally::added))]
     fn added(self, verdict: u64, net: i64) -> Tally
         requires { (tally_fit self ≡ true) × (nat_abs net ≤ largest_weight) }
         ensures { result ≡ added self verdict net }
@@ -203,6 +208,7 @@ impl Tally {
         self
     }
 
+    #[tactic(auto, unfolding(crate::specs::Tally::largest_with))]
     fn larger(self, net: i64) -> i64
         ensures { result ≡ largest_with self net }
     {
@@ -215,6 +221,7 @@ impl Tally {
         self.largest
     }
 
+    #[tactic(auto, unfolding(crate::specs::Tally::smallest_with))]
     fn smaller(self, net: i64) -> i64
         ensures { result ≡ smallest_with self net }
     {

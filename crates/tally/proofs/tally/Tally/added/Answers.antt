@@ -1,6 +1,6 @@
 -- `added` counts the verdict, and a grade's net with it. Assumes nothing.
 use mir.Facts.{to_z-of_z}
-use Rattle.tally.specs.Tally.{counted_with, added}
+use Rattle.tally.specs.Tally.{counted_with}
 use Rattle.tally.proofs.Facts.{fit_tells}
 use Rattle.tally.proofs.tally.Tally.added.Goals as goal
 
@@ -12,11 +12,3 @@ unfolding counted_with
 weighed-requires c =
     let b = (fit_tells c.args.self c.requires.0).bounds in
     rw (c.counted-counted.ensures, to_z-of_z c.ranges.net) (record { n = b.n; sum = b.sum; squares = b.squares }, c.requires.1)
-
-pub returns-then-verdict : goal.returns-then-verdict
-unfolding added
-returns-then-verdict c = rw (c.weighed.ensures, c.counted-counted.ensures, to_z-of_z c.ranges.net, c.if-verdict.true)
-
-pub returns : goal.returns
-unfolding added
-returns c = rw (c.counted-counted.ensures, c.if-verdict.false)

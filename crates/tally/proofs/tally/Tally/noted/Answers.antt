@@ -2,7 +2,6 @@
 use mathlib.Core.Path.{sym, ◌∙◌}
 use borrow.Author.Tests.{leb-true}
 use mir.Facts.{to_z-of_z}
-use Rattle.tally.specs.Tally.{noted_of}
 use Rattle.tally.proofs.Facts.{takes_tells}
 use Rattle.tally.proofs.tally.Tally.noted.Goals as goal
 
@@ -11,11 +10,3 @@ added-next-requires c =
     let a = c.args in
     let t = takes_tells a.self a.verdict a.net (rw (to_z-of_z c.ranges.net) at (sym c.takes.ensures ∙ c.if-takes.true)) in
     rw (to_z-of_z c.ranges.net) (t.fit, leb-true _ _ t.weight)
-
-pub returns-then-takes : goal.returns-then-takes
-unfolding noted_of
-returns-then-takes c = rw (rw (to_z-of_z c.ranges.net) at (sym c.takes.ensures ∙ c.if-takes.true), c.added-next.ensures, to_z-of_z c.ranges.net)
-
-pub returns : goal.returns
-unfolding noted_of
-returns c = rw (rw (to_z-of_z c.ranges.net) at (sym c.takes.ensures ∙ c.if-takes.false))
