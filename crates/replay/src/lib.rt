@@ -69,7 +69,7 @@ impl Plant {
     }
 }
 
-// The line is lent a hundred records of its own for one event. Whole values go in and out, which keeps the walk small.
+// The line is lent a hundred records of its own for one event. Whole values go in and out.
 fn lend_records(
     line: Line,
     settings: [Settings; RECORDS as usize],
