@@ -1,14 +1,12 @@
 -- Events run by the code, and the fold that demand 3 speaks of.
 use Rattle.std.specs.Prelude.{List, [], ◌∷◌, ◌++◌, ◌≡◌, ℤ, replicate, ℕ}
 use Rattle.settings.specs.Settings.{blank, settings_length}
-use Rattle.settings.specs.declared.Settings.{Settings}
 use Rattle.event.specs.declared.Event.{Event}
 use Rattle.tallies.specs.Memory.{zeros}
 use Rattle.line.specs.Line.{fresh_line}
 use Rattle.line.specs.State.{State, state}
 use Rattle.line.specs.Tallying.{step_in}
 use Rattle.line.specs.Step.{out_on, step_on}
-use Rattle.line.specs.declared.line.Line.{Line}
 use Rattle.claim.specs.Run.{World, answer, run_from, run}
 use Rattle.replay.specs.declared.Plant.{Plant}
 use Rattle.replay.specs.declared.Stepped.{Stepped}

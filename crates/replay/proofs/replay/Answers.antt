@@ -1,10 +1,10 @@
 -- `replay` is the fold: after i turns the plant and its tallies are those of the first i events. The claim holds of it. Assumes nothing.
 use borrow.Author.Rules.{rules}
 use mathlib.Core.Path.{◌≡◌, refl, ap, ◌∙◌}
-use Prim.Native.Nat.{ℕ, ◌-◌, ◌≤◌}
+use Prim.Native.Nat.{ℕ}
 use native.Mathlib.Omega.{arith}
 use lib.IntN.{pos}
-use lib.ListN.{length, take, length-replicate}
+use lib.ListN.{length, length-replicate}
 use lib.Seq.{take_all}
 use Rattle.claim.proofs.Every.{claim}
 use Rattle.claim.specs.Run.{run_from, run}
@@ -13,7 +13,7 @@ use Rattle.event.specs.declared.Event.TheVariants.{Sample}
 use Rattle.event.specs.declared.Event.{Event}
 use Rattle.tallies.specs.Memory.{zeros}
 use Rattle.replay.specs.Replay.{state_of, plant_in}
-use Rattle.replay.proofs.Fold.{ran, turned-after}
+use Rattle.replay.proofs.Fold.{turned-after}
 use Rattle.replay.proofs.replay.Goals as goal
 
 pub loop-i-init : goal.loop-i-init

@@ -1,19 +1,9 @@
 -- What the loop keeps.
-use borrow.Author.Rules.{rules}
-use mathlib.Core.Path.{◌≡◌, refl, ap, ◌∙◌}
-use Prim.Native.Nat.{ℕ, ◌-◌, ◌≤◌}
-use native.Mathlib.Omega.{arith}
-use lib.IntN.{pos}
-use lib.ListN.{length, take, length-replicate}
-use lib.Seq.{take_all}
-use Rattle.claim.proofs.Every.{claim}
-use Rattle.claim.specs.Run.{run_from, run}
-use Rattle.line.specs.State.{State}
-use Rattle.event.specs.declared.Event.TheVariants.{Sample}
-use Rattle.event.specs.declared.Event.{Event}
-use Rattle.tallies.specs.Memory.{zeros}
-use Rattle.replay.specs.Replay.{state_of, plant_in}
-use Rattle.replay.proofs.Fold.{ran, turned-after}
+use mathlib.Core.Path.{◌≡◌}
+use Prim.Native.Nat.{◌-◌, ◌≤◌}
+use lib.ListN.{length, take}
+use Rattle.replay.specs.Replay.{state_of}
+use Rattle.replay.proofs.Fold.{ran}
 use Rattle.replay.proofs.replay.Given as goal
 
 abbrev pub invariant-loop-i : goal.invariant-loop-i

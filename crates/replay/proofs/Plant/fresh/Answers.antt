@@ -1,5 +1,4 @@
 -- `fresh` equals its definition `fresh_plant`. Assumes nothing.
-use borrow.Author.Rules.{rules}
 use mathlib.Core.Path.{refl}
 use Rattle.replay.proofs.Plant.fresh.Goals as goal
 
