@@ -1,0 +1,6 @@
+-- `put_refused` writes the refusal of the text. Assumes nothing.
+use borrow.Author.Rules.{rules}
+use Rattle.controller.proofs.answer.put_refused.Goals as goal
+
+pub returns : goal.returns
+returns c = rw c.refusal_of_text.ensures at c.put_reply.ensures
