@@ -1,5 +1,4 @@
 -- `put_refused` writes the refusal of the text. Assumes nothing.
-use borrow.Author.Rules.{rules}
 use Rattle.controller.proofs.answer.put_refused.Goals as goal
 
 pub returns : goal.returns

@@ -1,5 +1,4 @@
 -- `put_report` writes the report's refusal or the sheet. Assumes nothing.
-use borrow.Author.Rules.{rules}
 use borrow.Author.Tests.{eq-eqb, ne_eqb}
 use Rattle.controller.proofs.answer.put_report.Goals as goal
 

@@ -1,5 +1,4 @@
 -- `refusal_of_text` equals its definition `text_refusal`: the table's number. Assumes nothing.
-use borrow.Author.Rules.{rules}
 use Rattle.controller.proofs.answer.refusal_of_text.Goals as goal
 
 pub returns : goal.returns
