@@ -4,3 +4,4 @@ pub mod Fills
 pub mod Took
 pub mod Draws
 pub mod Writes
+pub mod Passing

@@ -1,6 +1,6 @@
--- What a refill takes from a reader, where the bytes that the reader has left are known.
+-- What passes from a reader and to a writer, where it is known which bytes they have.
 use Rattle.std.specs.Prelude.{ℕ, ◌≡◌, List, [], Option, length, drop}
-use Rattle.std.specs.Io.KnownBytes.{Consumes, IsAtEnd}
+use Rattle.std.specs.Io.KnownBytes.{Consumes, Appends, IsAtEnd}
 use Rattle.laws.specs.Choice.{when◌then◌else◌}
 use Rattle.blocks.specs.Left.{last_of, bytes_left}
 use Rattle.blocks.specs.declared.left.Left.{Left}
@@ -13,3 +13,16 @@ read_bytes held l input = when last_of l then [] else drop (length held) (bytes_
 pub record Drawn (before after : Option (List ℕ)) (held : List ℕ) (l : Left) (input : List ℕ) : Type 0 where
   pub given : Consumes before after (read_bytes held l input)
   pub ended : l.over ≡ 1 → IsAtEnd after
+
+-- the bytes that a reader has left and those that a writer holds
+pub record Streams : Type 0 where
+  pub left : Option (List ℕ)
+  pub holds : Option (List ℕ)
+
+abbrev pub streams : Option (List ℕ) → Option (List ℕ) → Streams
+streams left holds = record { left = left; holds = holds }
+
+-- between the two these bytes were read, and those written
+pub record Passed (before after : Streams) (input written : List ℕ) : Type 0 where
+  pub read : Consumes before.left after.left input
+  pub wrote : Appends before.holds after.holds written

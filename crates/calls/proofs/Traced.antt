@@ -20,7 +20,11 @@ use Rattle.blocks.specs.Left.{kept_bytes, least_of, last_of, bytes_left, past_of
 use Rattle.blocks.specs.declared.left.Left.{Left}
 use Rattle.blocks.specs.declared.output.Taken.{Taken}
 use Rattle.blocks.specs.Taken.{all_taken, TakenOf}
+use Rattle.blocks.specs.Known.{Streams, streams, Passed, read_bytes, Drawn}
 use Rattle.blocks.proofs.Ends.{at_most}
+use Rattle.blocks.proofs.Passing.{passed_none, passed_in, passed_end, passed_out}
+use Rattle.std.specs.Prelude.{Option}
+use Rattle.std.specs.Io.KnownBytes.{Consumes, Appends, IsAtEnd}
 use Rattle.calls.specs.Service.{Service}
 use Rattle.calls.specs.Traces.{entries_of, Printing, ended, line, Program, Traced, Whole, Begun, EndsSo, Finished}
 use Rattle.calls.specs.declared.Ended.{Ended}
@@ -36,6 +40,10 @@ module _ (size : ℕ) (out : List ℕ) (fits : size ≤ length out) (t : Taken) 
   pub took_all : all_taken t ≡ true → t.taken ≡ size
   took_all h = eqb-true t.taken t.of h ∙ given
 
+  -- what it took is a part of the text
+  pub took_part : take t.taken (take size out) ≡ take t.taken out
+  took_part = let w = g.within in let e = g.whole in let h = given in take-take t.taken size out (omega (arith, w, e, h))
+
   pub took_less : all_taken t ≡ false → (length (take size out) ≡ t.of) × (t.taken < t.of)
   took_less h =
       let n = eqb-false t.taken t.of h in
@@ -48,8 +56,8 @@ module _ (size : ℕ) (out : List ℕ) (fits : size ≤ length out) (t : Taken) 
 
 -- a program that reads a line by what is kept of it, and whose end prints nothing before the first line
 module _ (prog : Service) (cut : (t : List ℕ) → prog.reads (take kept_bytes t) ≡ prog.reads t) (quiet : (text : List ℕ) → prog.Closes prog.start text → text ≡ []) where
-  pub traced_fresh : Traced prog prog.start [] false
-  traced_fresh = record { input = []; written = []; prints = λ more text _ p. p; closed = λ e. never e }
+  pub traced_fresh : (x : Streams) → Traced prog x x prog.start [] false
+  traced_fresh x = record { input = []; written = []; passed = passed_none x; prints = λ more text _ p. p; closed = λ e. never e }
 
   -- where no call has begun the end prints nothing
   nothing-more : {text : List ℕ} → Printing prog prog.start (entries_of prog []) text → text ≡ []
@@ -58,7 +66,10 @@ module _ (prog : Service) (cut : (t : List ℕ) → prog.reads (take kept_bytes 
       closed-by : {text : List ℕ} → Printing prog prog.start [] text → text ≡ []
       closed-by {text} (ended e) = quiet text e
 
-  module _ (s : prog.State) (left : List ℕ) (last : Bool) (t : Traced prog s left last) where
+  module _ (before now : Streams) (s : prog.State) (left : List ℕ) (last : Bool) (t : Traced prog before now s left last) where
+    abbrev out : (holds : Option (List ℕ)) (new : List ℕ) → Appends now.holds holds new → Passed before (streams now.left holds) t.input (t.written ++ new)
+    out holds new a = passed_out before now t.input t.written t.passed holds new a
+
     -- the first line of what is left
     abbrev pub said : prog.Entry
     said = prog.reads (take (line_length left) left)
@@ -69,30 +80,33 @@ module _ (prog : Service) (cut : (t : List ℕ) → prog.reads (take kept_bytes 
       on more text l p =
           rw (append_assoc t.written first text) (t.prints more (first ++ text) l (rw (first_entry prog left more whole) (line first text says p)))
 
-      pub traced-line : Traced prog (prog.after s said) (drop (line_length left + 1) left) last
-      traced-line =
+      pub traced-line : (holds : Option (List ℕ)) → Appends now.holds holds first → Traced prog before (streams now.left holds) (prog.after s said) (drop (line_length left + 1) left) last
+      traced-line holds a =
           record {
             input = t.input;
             written = t.written ++ first;
+            passed = out holds first a;
             prints = on;
             closed = λ e k h. subst (λ (x : List ℕ). NoLf x → x ≡ []) (sym (drop-drop k (line_length left + 1) left)) (t.closed e (line_length left + 1 + k)) h;
           }
 
-      pub line-due : Begun prog first
-      line-due =
+      pub line-due : (holds : Option (List ℕ)) (n : ℕ) → Appends now.holds holds (take n first) → Begun prog before (streams now.left holds) first n
+      line-due holds n a =
           record {
             input = t.input ++ [];
             written = t.written;
+            passed = rw (append-nil t.input) (out holds (take n first) a);
             state = prog.after s said;
             left = drop (line_length left + 1) left ++ [];
             begun = λ text p. on [] text (λ _. refl) p;
           }
 
-    pub traced-due : Begun prog []
+    pub traced-due : Begun prog before now [] 0
     traced-due =
         record {
           input = t.input ++ [];
           written = t.written;
+          passed = rw (append-nil t.input, append-nil t.written) t.passed;
           state = s;
           left = left ++ [];
           begun = λ text p. rw (append-nil t.written) (t.prints [] text (λ _. refl) p);
@@ -105,23 +119,24 @@ module _ (prog : Service) (cut : (t : List ℕ) → prog.reads (take kept_bytes 
           let gone : left ≡ [] = t.closed over 0 none in
           t.prints [] text (λ _. refl) (rw (gone, (no_entry prog)) (ended closes))
 
-      pub traced_ends : Whole prog
-      traced_ends = record { input = t.input ++ []; written = t.written ++ text; whole = all }
+      pub traced_ends : (holds : Option (List ℕ)) → Appends now.holds holds text → Whole prog before (streams now.left holds)
+      traced_ends holds a = record { input = t.input ++ []; written = t.written ++ text; passed = rw (append-nil t.input) (out holds text a); whole = all }
 
       -- behind it nothing is printed
-      pub traced-end-due : Begun prog text
-      traced-end-due =
-          record { input = t.input ++ []; written = t.written; state = prog.start; left = []; begun = λ more p. rw (nothing-more p, append-nil (t.written ++ text)) all }
+      pub traced-end-due : (holds : Option (List ℕ)) (n : ℕ) → Appends now.holds holds (take n text) → Begun prog before (streams now.left holds) text n
+      traced-end-due holds n a =
+          record { input = t.input ++ []; written = t.written; passed = rw (append-nil t.input) (out holds (take n text) a); state = prog.start; left = []; begun = λ more p. rw (nothing-more p, append-nil (t.written ++ text)) all }
 
-  module _ (s : prog.State) (left : List ℕ) (t : Traced prog s left false) (none : NoLf left) where
+  module _ (before now : Streams) (s : prog.State) (left : List ℕ) (t : Traced prog before now s left false) (none : NoLf left) where
     abbrev kept : List ℕ
     kept = take kept_bytes left
 
-    traced_new : (new : List ℕ) → Traced prog s (kept ++ new) false
-    traced_new new =
+    traced_new : (reads : Option (List ℕ)) (new : List ℕ) → Consumes now.left reads new → Traced prog before (streams reads now.holds) s (kept ++ new) false
+    traced_new reads new c =
         record {
           input = t.input ++ new;
           written = t.written;
+          passed = passed_in before now t.input t.written t.passed reads new c;
           prints = λ more text _ p.
               rw (append_assoc t.input new more) (
               t.prints (new ++ more) text (λ e. never e)
@@ -129,11 +144,12 @@ module _ (prog : Service) (cut : (t : List ℕ) → prog.reads (take kept_bytes 
           closed = λ e. never e;
         }
 
-    traced_last : Traced prog s (kept ++ at_end kept) true
-    traced_last =
+    traced_last : (reads : Option (List ℕ)) → Consumes now.left reads [] → Traced prog before (streams reads now.holds) s (kept ++ at_end kept) true
+    traced_last reads c =
         record {
           input = t.input;
           written = t.written;
+          passed = passed_end before now t.input t.written t.passed reads c;
           prints = λ more text h p.
               rw (h refl) (
               t.prints [] text (λ e. never e)
@@ -141,15 +157,22 @@ module _ (prog : Service) (cut : (t : List ℕ) → prog.reads (take kept_bytes 
           closed = λ _. ended-closed kept;
         }
 
-    pub traced_more : (l : Left) (input : List ℕ) → Filled kept l input → Traced prog s (bytes_left l input) (last_of l)
-    traced_more l input f =
+    pub traced_more : (l : Left) (input : List ℕ) → Filled kept l input → (reads : Option (List ℕ)) → Drawn now.left reads kept l input
+        → Traced prog before (streams reads now.holds) s (bytes_left l input) (last_of l)
+    traced_more l input f reads d =
         by_cases (last_of l)
-        (λ y. let e : bytes_left l input ≡ kept ++ at_end kept = rw y at f.bytes in rw (e, y) traced_last)
-        (λ n. let e : bytes_left l input ≡ kept ++ f.new = rw n at f.bytes in rw (e, n) (traced_new f.new))
+        (λ y.
+        let e : bytes_left l input ≡ kept ++ at_end kept = rw y at f.bytes in
+        let none-read : read_bytes kept l input ≡ [] = rw y refl in
+        rw (e, y) (traced_last reads (subst (Consumes now.left reads) none-read d.given)))
+        (λ n.
+        let e : bytes_left l input ≡ kept ++ f.new = rw n at f.bytes in
+        let new-read : read_bytes kept l input ≡ f.new = rw (n, e) (drop_at kept f.new (length kept) refl) in
+        rw (e, n) (traced_new reads f.new (subst (Consumes now.left reads) new-read d.given)))
 
   -- ---- a turn of the loop
 
-  module _ (input : List ℕ) (left : Left) (s : prog.State) (order : left.start ≤ left.end) (within : left.end ≤ length input) where
+  module _ (before now : Streams) (input : List ℕ) (left : Left) (s : prog.State) (order : left.start ≤ left.end) (within : left.end ≤ length input) where
     abbrev bytes : List ℕ
     bytes = bytes_left left input
 
@@ -187,7 +210,7 @@ module _ (prog : Service) (cut : (t : List ℕ) → prog.reads (take kept_bytes 
           let k : left.start + (end - left.start + 1) ≤ left.end = omega (arith, h, ends) in
           rw (le-leb (left.start + (end - left.start + 1)) left.end k) k
 
-      module _ (t : Traced prog s bytes (last_of left)) (h : end < left.end) (l : List ℕ) (is : l ≡ take (end - left.start) (drop left.start input))
+      module _ (t : Traced prog before now s bytes (last_of left)) (h : end < left.end) (l : List ℕ) (is : l ≡ take (end - left.start) (drop left.start input))
           (text : List ℕ) (says : prog.Says s (prog.reads l) text) where
         whole-line : l ≡ take (line_length bytes) bytes
         whole-line = is ∙ line-is h
@@ -195,30 +218,39 @@ module _ (prog : Service) (cut : (t : List ℕ) → prog.reads (take kept_bytes 
         said-so : prog.Says s (prog.reads (take (line_length bytes) bytes)) text
         said-so = subst (λ (x : List ℕ). prog.Says s (prog.reads x) text) whole-line says
 
-        pub turn-goes : (p : prog.State) → p ≡ prog.after s (prog.reads l)
-            → ((past_of left (end - left.start + 1)).start ≤ left.end) × Traced prog p (bytes_left (past_of left (end - left.start + 1)) input) (last_of left)
-        turn-goes p e =
+        pub turn-goes : (holds : Option (List ℕ)) → Appends now.holds holds text → (p : prog.State) → p ≡ prog.after s (prog.reads l)
+            → ((past_of left (end - left.start + 1)).start ≤ left.end) × Traced prog before (streams now.left holds) p (bytes_left (past_of left (end - left.start + 1)) input) (last_of left)
+        turn-goes holds a p e =
             let e' : p ≡ prog.after s (prog.reads (take (line_length bytes) bytes)) = e ∙ ap (λ (x : List ℕ). prog.after s (prog.reads x)) whole-line in
-            (past_order h, rw (e', past-it h) (traced-line s bytes (last_of left) t (complete h) text said-so))
+            (past_order h, rw (e', past-it h) (traced-line before now s bytes (last_of left) t (complete h) text said-so holds a))
 
-        pub turn-due : Begun prog text
-        turn-due = line-due s bytes (last_of left) t (complete h) text said-so
+        pub turn-due : (holds : Option (List ℕ)) (n : ℕ) → Appends now.holds holds (take n text) → Begun prog before (streams now.left holds) text n
+        turn-due holds n a = line-due before now s bytes (last_of left) t (complete h) text said-so holds n a
 
-      module _ (t : Traced prog s bytes (last_of left)) (h : left.end ≤ end) where
-        pub turn-ends : last_of left ≡ true → (text : List ℕ) → prog.Closes s text → Whole prog
-        turn-ends over text closes = traced_ends s bytes (last_of left) t over (none-complete h) text closes
+      module _ (t : Traced prog before now s bytes (last_of left)) (h : left.end ≤ end) where
+        pub turn-ends : last_of left ≡ true → (text : List ℕ) → prog.Closes s text → (holds : Option (List ℕ)) → Appends now.holds holds text
+            → Whole prog before (streams now.left holds)
+        turn-ends over text closes holds a = traced_ends before now s bytes (last_of left) t over (none-complete h) text closes holds a
 
-        pub end-due : last_of left ≡ true → (text : List ℕ) → prog.Closes s text → Begun prog text
-        end-due over text closes = traced-end-due s bytes (last_of left) t over (none-complete h) text closes
+        pub end-due : last_of left ≡ true → (text : List ℕ) → prog.Closes s text → (holds : Option (List ℕ)) (n : ℕ) → Appends now.holds holds (take n text)
+            → Begun prog before (streams now.left holds) text n
+        end-due over text closes holds n a = traced-end-due before now s bytes (last_of left) t over (none-complete h) text closes holds n a
 
         -- how the program ends, by what the last step answers
-        pub turn-finished : last_of left ≡ true → (r : Ended) → Finished prog s left r → EndsSo prog r
-        turn-finished over (Input l) f = (ap last_of f.0 ∙ over, turn-ends over f.1.0 f.1.1)
-        turn-finished over (Output taken) f = (f.0, end-due over f.0.due f.1)
-        turn-finished over (Turns n) f = absurd f
+        pub turn-finished : last_of left ≡ true → (left.over ≡ 1 → IsAtEnd now.left) → (holds : Option (List ℕ)) (r : Ended) → Finished prog s left now.holds holds r
+            → EndsSo prog before (streams now.left holds) r
+        turn-finished over done holds (Input l) f =
+            (ap last_of f.0 ∙ over, λ e. done (sym (ap (λ (x : Left). x.over) f.0) ∙ e), turn-ends over f.1.0 f.1.1 holds f.1.2)
+        turn-finished over done holds (Output taken) f = (f.0, end-due over f.0.due f.1 holds taken.taken f.2)
+        turn-finished over done holds (Turns n) f = absurd f
 
         pub turn-reads : last_of left ≡ false → kept_bytes < length input → (r : Left) (after : List ℕ) → Refilled left input r after
-            → (length after ≡ length input) × (r.start ≤ r.end) × (r.end ≤ length after) × Traced prog s (bytes_left r after) (last_of r)
-        turn-reads more big r after g =
-            let f = g.filled big in
-            (g.same_length, f.order, f.within, traced_more s bytes (subst (λ (x : Bool). Traced prog s bytes x) more t) (none-complete h) r after f)
+            → (reads : Option (List ℕ)) → Drawn now.left reads (take kept_bytes bytes) r after
+            → (length after ≡ length input) × (r.start ≤ r.end) × (r.end ≤ length after) × Traced prog before (streams reads now.holds) s (bytes_left r after) (last_of r)
+        turn-reads more big r after g reads d =
+            let f = g.filled big in (
+              g.same_length,
+              f.order,
+              f.within,
+              traced_more before now s bytes (subst (λ (x : Bool). Traced prog before now s bytes x) more t) (none-complete h) r after f reads d,
+            )

@@ -1,6 +1,7 @@
 // The input to the output, until the input ends.
 ghost use Rattle.std.specs.Prelude.{◌≡◌, ◌*◌, ◌≤◌, length};
 ghost use Rattle.exitlog.specs.Lines.{call_room};
+ghost use Rattle.blocks.specs.Known.{streams};
 ghost use Rattle.calls.specs.Traces.{EndsSo, Finished};
 ghost use Rattle.exits.specs.Session.{places, exit_calls, state_of, Holds};
 
@@ -40,7 +41,7 @@ fn finish<W: Write>(
     left: Left,
 ) -> Ended
     requires { Holds call verdicts.now signals.now × (length pairs.old ≡ 2 * places) × (call_room ≤ length out.old) }
-    ensures { Finished exit_calls (state_of call verdicts.now signals.now) left result }
+    ensures { Finished exit_calls (state_of call verdicts.now signals.now) left (W.contents writer.old) (W.contents writer.new) result }
 {
     let at = close(call, verdicts, signals, pairs, out);
     let taken = write_out(writer, out, at);
@@ -52,7 +53,7 @@ fn finish<W: Write>(
 
 // Each complete line in the buffer is served, and what it prints written; where none is left, more is read.
 pub(crate) fn serve_input<R: Read, W: Write>(reader: &mut R, writer: &mut W) -> Ended
-    ensures { EndsSo exit_calls result }
+    ensures { EndsSo exit_calls (streams (R.remaining reader.old) (W.contents writer.old)) (streams (R.remaining reader.new) (W.contents writer.new)) result }
 {
     let mut input = large_buffer();
     let mut out = output();
@@ -69,7 +70,9 @@ pub(crate) fn serve_input<R: Read, W: Write>(reader: &mut R, writer: &mut W) -> 
         let end = line_end(&input[..last], start);
         if last <= end {
             if left.is_last() {
-                return finish(writer, call, &verdicts, &signals, &mut pairs, &mut out, left);
+                return finish(
+                    writer, call, &verdicts, &signals, &mut pairs, &mut out, left,
+                );
             }
             left = left.refilled(reader, &mut input);
             continue;

@@ -1,6 +1,7 @@
 // The input to the output, until the input ends.
 ghost use Rattle.std.specs.Prelude.{◌≡◌, ◌≤◌, length};
 ghost use Rattle.print.specs.Reply.{reply_room};
+ghost use Rattle.blocks.specs.Known.{streams};
 ghost use Rattle.calls.specs.Traces.{EndsSo, Finished};
 ghost use Rattle.margin.specs.Session.{places, margin_calls, state_of, Holds};
 
@@ -24,9 +25,15 @@ fn list() -> [i64; PLACES]
 }
 
 // The end of the input ends the last call.
-fn finish<W: Write>(writer: &mut W, call: Call, samples: &[i64], out: &mut [u8], left: Left) -> Ended
+fn finish<W: Write>(
+    writer: &mut W,
+    call: Call,
+    samples: &[i64],
+    out: &mut [u8],
+    left: Left,
+) -> Ended
     requires { Holds call samples.now × (reply_room ≤ length out.old) }
-    ensures { Finished margin_calls (state_of call samples.now) left result }
+    ensures { Finished margin_calls (state_of call samples.now) left (W.contents writer.old) (W.contents writer.new) result }
 {
     let at = close(call, samples, out);
     let taken = write_out(writer, out, at);
@@ -38,7 +45,7 @@ fn finish<W: Write>(writer: &mut W, call: Call, samples: &[i64], out: &mut [u8],
 
 // Each complete line in the buffer is served, and what it prints written; where none is left, more is read.
 pub(crate) fn serve_input<R: Read, W: Write>(reader: &mut R, writer: &mut W) -> Ended
-    ensures { EndsSo margin_calls result }
+    ensures { EndsSo margin_calls (streams (R.remaining reader.old) (W.contents writer.old)) (streams (R.remaining reader.new) (W.contents writer.new)) result }
 {
     let mut input = large_buffer();
     let mut out = output();

@@ -1,0 +1,22 @@
+-- What the loop keeps.
+use mathlib.Core.Path.{◌≡◌}
+use Prim.Native.Nat.{◌-◌, ◌*◌, ◌≤◌, ◌^◌}
+use lib.ListN.{length}
+use Rattle.std.specs.Io.KnownBytes.{IsAtEnd}
+use Rattle.blocks.specs.Left.{last_of, bytes_left}
+use Rattle.blocks.specs.Known.{streams}
+use Rattle.exitlog.specs.Lines.{call_room}
+use Rattle.exits.specs.Session.{places, exit_calls, state_of, Holds}
+use Rattle.calls.specs.Traces.{Traced}
+use Rattle.exits.proofs.input.serve_input.Given as goal
+
+abbrev pub invariant-loop-turns : goal.invariant-loop-turns
+invariant-loop-turns g l =
+    (length l.input ≡ 65536) × (length l.out ≡ call_room) × (length l.pairs ≡ 2 * places) × Holds l.call l.verdicts l.signals
+    × (l.left.start ≤ l.left.end) × (l.left.end ≤ 65536) × (l.turns ≤ 2 ^ 64 - 1)
+    × Traced exit_calls (streams (g.R.Read.remaining l.fn.reader) (g.W.Write.contents l.fn.writer)) (streams (g.R.Read.remaining l.reader) (g.W.Write.contents l.writer))
+    (state_of l.call l.verdicts l.signals) (bytes_left l.left l.input) (last_of l.left)
+    × (l.left.over ≡ 1 → IsAtEnd (g.R.Read.remaining l.reader))
+
+abbrev pub decreases-loop-turns : goal.decreases-loop-turns
+decreases-loop-turns g l = 2 ^ 64 - 1 - l.turns
