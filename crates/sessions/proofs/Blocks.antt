@@ -19,7 +19,7 @@ use denote.Laws.{Is, shows}
 use denote.Array.{Array, Array-Makes}
 use denote.Plain.{uint_Makes}
 use denote.Builtin.{i64, u8, usize}
-use denote.Ref.{MutBor}
+use denote.Ref.{Bor, MutBor}
 use denote.Slice.{slice_val, MutSlice, ShrSlice, finally}
 use denote.Steps.{owned, facts, heard, nothing}
 use denote.Struct.Laws as LL
@@ -42,7 +42,7 @@ use Rattle.sessions.specs.declared.block.Block.{Block}
 use Rattle.sessions.specs.contracts.block.Block as B
 use Rattle.sessions.specs.contracts.block.serve_lines as lines
 use Rattle.sessions.specs.contracts.block.rest as rest
-use Rattle.walks.proofs.Lending.{ref}
+use Rattle.walks.proofs.Lending.{ref, shr}
 
 module _ {M : Type 1} {𝓤 : Ura M} (𝓛 : Logic 𝓤) (mem : Memory → SProp 𝓤) (run : Routine → Fun 𝓤) where
   open 𝓛 use {H, A}
@@ -57,15 +57,15 @@ module _ {M : Type 1} {𝓤 : Ura M} (𝓛 : Logic 𝓤) (mem : Memory → SProp
   Lines = triple_of 𝓛 lines.signature (lines.spec 𝓛 mem run)
 
   -- ---- `begin`
-  module _ (κ : Lft) (q : Share) (line : Line) (lv : Val) (b o n : ℕ) (γ : GName) (xs : List ℕ) (room : ℕ) (line-is : Is L.the_row line (lv ∷ [])) (room_fits : room < 2 ^ 64) where
-    abbrev args-b : Line × (MutBor (List ℕ) × (ℕ × Unit {0}))
-    args-b = (line, (ref b o γ xs, (room, tt)))
+  module _ (κ : Lft) (q : Share) (line : Line) (lv : Val) (b o n : ℕ) (xs : List ℕ) (room : ℕ) (line-is : Is L.the_row line (lv ∷ [])) (room_fits : room < 2 ^ 64) where
+    abbrev args-b : Line × (Bor (List ℕ) × (ℕ × Unit {0}))
+    args-b = (line, (shr b o xs, (room, tt)))
 
     abbrev pub to-begin : Begin.Ghost
     to-begin = (((κ, tt), (q, tt), tt, args-b, (lv ∷ [], (slice_val (b, o) n ∷ [], (vint w64 room ∷ [], tt)))), tt)
 
     abbrev In : Fml
-    In = (ShrSlice (named 0) κ u8).own_val (ref b o γ xs) (slice_val (b, o) n ∷ [])
+    In = (ShrSlice (named 0) κ u8).own_val (shr b o xs) (slice_val (b, o) n ∷ [])
 
     abbrev Begun : Val → Session → SProp 𝓤
     Begun w r = guard 𝓤 (Is S.the_row r (w ∷ [])) (guard 𝓤 (Begins line xs room r) (A.lft κ q))
@@ -85,10 +85,10 @@ module _ {M : Type 1} {𝓤 : Ura M} (𝓛 : Logic 𝓤) (mem : Memory → SProp
         check ! is $ check ! h $ keep ! (0 ∷ []) $ done !))))
 
   -- ---- `serve_lines`
-  module _ (κ κ₁ κ₂ κ₃ : Lft) (q q₁ q₂ q₃ : Share) (x : Session) (xv : Val) (b o n : ℕ) (γ : GName) (ys : List Settings) (b₁ o₁ n₁ : ℕ) (γ₁ : GName) (ts : List ℤ) (b₂ o₂ n₂ : ℕ) (γ₂ : GName) (xs : List ℕ)
+  module _ (κ κ₁ κ₂ κ₃ : Lft) (q q₁ q₂ q₃ : Share) (x : Session) (xv : Val) (b o n : ℕ) (γ : GName) (ys : List Settings) (b₁ o₁ n₁ : ℕ) (γ₁ : GName) (ts : List ℤ) (b₂ o₂ n₂ : ℕ) (xs : List ℕ)
       (b₃ o₃ n₃ : ℕ) (γ₃ : GName) (us : List ℕ) (x-is : Is S.the_row x (xv ∷ [])) (ends : (Ends xs (length us) x) × (x.at ≡ 0)) where
-    abbrev args : Session × (MutBor (List Settings) × (MutBor (List ℤ) × (MutBor (List ℕ) × (MutBor (List ℕ) × Unit {0}))))
-    args = (x, (ref b o γ ys, (ref b₁ o₁ γ₁ ts, (ref b₂ o₂ γ₂ xs, (ref b₃ o₃ γ₃ us, tt)))))
+    abbrev args : Session × (MutBor (List Settings) × (MutBor (List ℤ) × (Bor (List ℕ) × (MutBor (List ℕ) × Unit {0}))))
+    args = (x, (ref b o γ ys, (ref b₁ o₁ γ₁ ts, (shr b₂ o₂ xs, (ref b₃ o₃ γ₃ us, tt)))))
 
     abbrev pub to-lines : Lines.Ghost
     to-lines = (((κ, (κ₁, (κ₂, (κ₃, tt)))), (q, (q₁, (q₂, (q₃, tt)))), tt, args, (xv ∷ [], (slice_val (b, o) n ∷ [], (slice_val (b₁, o₁) n₁ ∷ [], (slice_val (b₂, o₂) n₂ ∷ [], (slice_val (b₃, o₃) n₃ ∷ [], tt)))))), tt)
@@ -100,7 +100,7 @@ module _ {M : Type 1} {𝓤 : Ura M} (𝓛 : Logic 𝓤) (mem : Memory → SProp
     Own₁ = (MutSlice (named 1) κ₁ i64).own_val (ref b₁ o₁ γ₁ ts) (slice_val (b₁, o₁) n₁ ∷ [])
 
     abbrev Own₂ : Fml
-    Own₂ = (ShrSlice (named 2) κ₂ u8).own_val (ref b₂ o₂ γ₂ xs) (slice_val (b₂, o₂) n₂ ∷ [])
+    Own₂ = (ShrSlice (named 2) κ₂ u8).own_val (shr b₂ o₂ xs) (slice_val (b₂, o₂) n₂ ∷ [])
 
     abbrev Own₃ : Fml
     Own₃ = (MutSlice (named 3) κ₃ u8).own_val (ref b₃ o₃ γ₃ us) (slice_val (b₃, o₃) n₃ ∷ [])
@@ -128,12 +128,12 @@ module _ {M : Type 1} {𝓤 : Ura M} (𝓛 : Logic 𝓤) (mem : Memory → SProp
         qed 𝓛 (raw (Lines.post to-lines w) ∷ []) ∵ updating ! $
         use1 𝓛 (later (some (λ (r : Session). ((‵ (flft κ q) ⊛ (‵ (flft κ₁ q₁) ⊛ (‵ (flft κ₂ q₂) ⊛ (‵ (flft κ₃ q₃) ⊛ ‵ ftrue)))) ⊛ ‵ ((S.the_row).own_val r (w ∷ []))) ⊛ raw (ensured 𝓛 lines.ended (lines.clauses 𝓛 mem run) (κ, (κ₁, (κ₂, (κ₃, tt)))) args tt r)))) (id⊢ 𝓤 _) $ await ! tt $ pick ! (λ r.
         split ! $ move ! (1 ∷ []) $ use1 𝓛 (some (λ (ws : Lasts). ‵ (lasts lines.ended (κ, (κ₁, (κ₂, (κ₃, tt)))) args ws) ⊛ raw (fact 𝓤 (Took r ws)))) (id⊢ 𝓤 _) $ pick ! (λ ws.
-        split ! $ move ! (1 ∷ []) $ heard ! (Took r ws) (λ h. fsplit ! $ drop ! $ fsplit ! $ fsplit ! $ move ! (1 ∷ []) $ feq_l ! (λ m. move ! (1 ∷ []) $ fsplit ! $ fsplit ! $ move ! (1 ∷ []) $ feq_l ! (λ m₁. move ! (1 ∷ []) $ fsplit ! $ drop ! $ fsplit ! $ fsplit ! $ move ! (1 ∷ []) $ feq_l ! (λ m₃.
-        -- [the last output; true; the last tallies; the last records; the tokens and the result]
-        move ! (4 ∷ []) $ split ! $ move ! (1 ∷ []) $ facts ! S.the_row (Is S.the_row) (shows 𝓛 S.the_row) r (w ∷ []) (λ is. split ! $ move ! (1 ∷ []) $ split ! $ move ! (1 ∷ []) $ split ! $ move ! (1 ∷ []) $ split ! $ at_once ! $
-        -- [κ₃'s token; true; κ₂'s; κ₁'s; κ's; the last output; true; the last tallies; the last records]
+        split ! $ move ! (1 ∷ []) $ heard ! (Took r ws) (λ h. fsplit ! $ drop ! $ fsplit ! $ fsplit ! $ fsplit ! $ move ! (1 ∷ []) $ feq_l ! (λ m. move ! (2 ∷ []) $ fsplit ! $ fsplit ! $ fsplit ! $ move ! (1 ∷ []) $ feq_l ! (λ m₁. move ! (2 ∷ []) $ fsplit ! $ drop ! $ fsplit ! $ fsplit ! $ fsplit ! $ move ! (1 ∷ []) $ feq_l ! (λ m₃.
+        -- [the last output; its borrow; true; the last tallies; their borrow; the last records; their borrow; the tokens and the result]
+        move ! (7 ∷ []) $ split ! $ move ! (1 ∷ []) $ facts ! S.the_row (Is S.the_row) (shows 𝓛 S.the_row) r (w ∷ []) (λ is. split ! $ move ! (1 ∷ []) $ split ! $ move ! (1 ∷ []) $ split ! $ move ! (1 ∷ []) $ split ! $ at_once ! $
+        -- [κ₃'s token; true; κ₂'s; κ₁'s; κ's; the last output; its borrow; true; the last tallies; their borrow; the last records; their borrow]
         show ! (λ (r' : Session). ex 𝓤 (Left w r')) r $ show ! (Left w r) ws $
-        check ! is $ check ! h $ check ! m $ check ! m₁ $ check ! m₃ $ keep ! (8 ∷ 4 ∷ 7 ∷ 3 ∷ 2 ∷ 5 ∷ 0 ∷ []) $ done !)))))))
+        check ! is $ check ! h $ check ! m $ check ! m₁ $ check ! m₃ $ keep ! (10 ∷ 4 ∷ 8 ∷ 3 ∷ 2 ∷ 5 ∷ 0 ∷ []) $ done !)))))))
 
   -- ---- `rest`
   module _ (x : Session) (xv : Val) (ss : List Settings) (sv : Val) (x-is : Is S.the_row x (xv ∷ [])) (ss-is : Is (Array T.the_row 100) ss (sv ∷ [])) where

@@ -1,6 +1,6 @@
 -- Parts of a function's body, by which a walk in several declarations names where each begins. Assumes nothing.
 use Prim.Native.Nat.{ℕ, zero, suc}
-use mir.Syntax.{Body, skip, seq, assign, block, loop, cond, switch, exit, return, call}
+use mir.Syntax.{Body, skip, seq, assign, block, loop, cond, switch, exit, return, call, unreachable, call_v, lend_static}
 
 abbrev first_of : Body → Body
 first_of skip = skip
@@ -12,6 +12,9 @@ first_of (switch x y) = skip
 first_of (exit x) = skip
 first_of return = skip
 first_of (call x y z) = skip
+first_of unreachable = skip
+first_of (call_v x y z w) = skip
+first_of (lend_static x y z) = skip
 first_of (seq x y) = x
 
 abbrev rest_of : Body → Body
@@ -24,6 +27,9 @@ rest_of (switch x y) = skip
 rest_of (exit x) = skip
 rest_of return = skip
 rest_of (call x y z) = skip
+rest_of unreachable = skip
+rest_of (call_v x y z w) = skip
+rest_of (lend_static x y z) = skip
 rest_of (seq x y) = y
 
 abbrev inside : Body → Body
@@ -36,6 +42,9 @@ inside (switch x y) = skip
 inside (exit x) = skip
 inside return = skip
 inside (call x y z) = skip
+inside unreachable = skip
+inside (call_v x y z w) = skip
+inside (lend_static x y z) = skip
 inside (seq x y) = skip
 
 -- the turn of the loop at the head of a body

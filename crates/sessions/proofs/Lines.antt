@@ -18,7 +18,7 @@ use types.Kit.{‵, raw, ◌⊛◌, some, later, ◌$◌, ◌∵◌, !, qed, mov
 use denote.Laws.{Is, shows}
 use denote.Plain.{uint_Makes}
 use denote.Builtin.{i64, u8, usize}
-use denote.Ref.{MutBor}
+use denote.Ref.{Bor, MutBor}
 use denote.Slice.{slice_val, MutSlice, ShrSlice, finally}
 use denote.Steps.{owned, facts, heard, nothing}
 use denote.Struct.Laws as LL
@@ -28,7 +28,7 @@ use denote.Triple.Clauses.{ensured, lasts}
 use Rattle.line.specs.State.{state}
 use Rattle.settings.specs.declared.Settings.{Settings}
 use Rattle.settings.specs.contracts.Settings as T
-use Rattle.walks.proofs.Lending.{ref, result-is, result_rel}
+use Rattle.walks.proofs.Lending.{ref, shr, result-is, result_rel}
 use Rattle.line.specs.declared.line.Line.{Line}
 use Rattle.line.specs.contracts.line.Line as L
 use Rattle.line.proofs.line.Line.TheLaws as L'
@@ -56,10 +56,10 @@ module _ {M : Type 1} {𝓤 : Ura M} (𝓛 : Logic 𝓤) (mem : Memory → SProp
   Next = triple_of 𝓛 next.signature (next.spec 𝓛 mem run)
 
   -- ---- `serve`: the memories and the output as `&mut`, the text as shared
-  module _ (κ κ₁ κ₂ κ₃ : Lft) (q q₁ q₂ q₃ : Share) (line : Line) (lv : Val) (b o n : ℕ) (γ : GName) (ys : List Settings) (b₁ o₁ n₁ : ℕ) (γ₁ : GName) (ts : List ℤ) (b₂ o₂ n₂ : ℕ) (γ₂ : GName) (tx : List ℕ)
+  module _ (κ κ₁ κ₂ κ₃ : Lft) (q q₁ q₂ q₃ : Share) (line : Line) (lv : Val) (b o n : ℕ) (γ : GName) (ys : List Settings) (b₁ o₁ n₁ : ℕ) (γ₁ : GName) (ts : List ℤ) (b₂ o₂ n₂ : ℕ) (tx : List ℕ)
       (b₃ o₃ n₃ : ℕ) (γ₃ : GName) (us : List ℕ) (at : ℕ) (line-is : Is L.the_row line (lv ∷ [])) (at-fits : at < 2 ^ 64) where
-    abbrev args : Line × (MutBor (List Settings) × (MutBor (List ℤ) × (MutBor (List ℕ) × (MutBor (List ℕ) × (ℕ × Unit {0})))))
-    args = (line, (ref b o γ ys, (ref b₁ o₁ γ₁ ts, (ref b₂ o₂ γ₂ tx, (ref b₃ o₃ γ₃ us, (at, tt))))))
+    abbrev args : Line × (MutBor (List Settings) × (MutBor (List ℤ) × (Bor (List ℕ) × (MutBor (List ℕ) × (ℕ × Unit {0})))))
+    args = (line, (ref b o γ ys, (ref b₁ o₁ γ₁ ts, (shr b₂ o₂ tx, (ref b₃ o₃ γ₃ us, (at, tt))))))
 
     abbrev pub to-serve : Serve.Ghost
     to-serve = (
@@ -80,7 +80,7 @@ module _ {M : Type 1} {𝓤 : Ura M} (𝓛 : Logic 𝓤) (mem : Memory → SProp
     Own₁ = (MutSlice (named 1) κ₁ i64).own_val (ref b₁ o₁ γ₁ ts) (slice_val (b₁, o₁) n₁ ∷ [])
 
     abbrev Own₂ : Fml
-    Own₂ = (ShrSlice (named 2) κ₂ u8).own_val (ref b₂ o₂ γ₂ tx) (slice_val (b₂, o₂) n₂ ∷ [])
+    Own₂ = (ShrSlice (named 2) κ₂ u8).own_val (shr b₂ o₂ tx) (slice_val (b₂, o₂) n₂ ∷ [])
 
     abbrev Own₃ : Fml
     Own₃ = (MutSlice (named 3) κ₃ u8).own_val (ref b₃ o₃ γ₃ us) (slice_val (b₃, o₃) n₃ ∷ [])
@@ -107,27 +107,27 @@ module _ {M : Type 1} {𝓤 : Ura M} (𝓛 : Logic 𝓤) (mem : Memory → SProp
         split ! $ move ! (1 ∷ []) $ use1 𝓛 (some (λ (ws : Lasts). ‵ (lasts serve.ended (κ, (κ₁, (κ₂, (κ₃, tt)))) args ws) ⊛ (raw (fact 𝓤 (r ≡ served_of (serving (state line ys ts) (read_line tx) us at))) ⊛ (raw (fact 𝓤 (ws.1.0 ≡ (serving (state line ys ts) (read_line tx) us at).state.settings)) ⊛
         (raw (fact 𝓤 (ws.1.1.0 ≡ (serving (state line ys ts) (read_line tx) us at).state.tallies)) ⊛ raw (fact 𝓤 (ws.1.1.1.1.0 ≡ (serving (state line ys ts) (read_line tx) us at).out))))))) (id⊢ 𝓤 _) $ pick ! (λ ws. split ! $
         move ! (1 ∷ []) $ split ! $ heard ! (r ≡ served_of (serving (state line ys ts) (read_line tx) us at)) (λ e. split ! $ heard ! (ws.1.0 ≡ (serving (state line ys ts) (read_line tx) us at).state.settings) (λ e₁. split ! $ heard ! (ws.1.1.0 ≡ (serving (state line ys ts) (read_line tx) us at).state.tallies) (λ e₂. heard ! (ws.1.1.1.1.0 ≡ (serving (state line ys ts) (read_line tx) us at).out) (λ e₃.
-        fsplit ! $ drop ! $ fsplit ! $ fsplit ! $ move ! (1 ∷ []) $ feq_l ! (λ m. move ! (1 ∷ []) $ fsplit ! $ fsplit ! $ move ! (1 ∷ []) $ feq_l ! (λ m₁. move ! (1 ∷ []) $ fsplit ! $ drop ! $ fsplit ! $ fsplit ! $ move ! (1 ∷ []) $ feq_l ! (λ m₃.
-        -- [the last output; the other lasts; the last tallies; the last records; the tokens and the result]
-        move ! (4 ∷ []) $ split ! $ move ! (1 ∷ []) $ facts ! O.the_row (Is O.the_row) (shows 𝓛 O.the_row) r (w ∷ []) (λ is. split ! $ move ! (1 ∷ []) $ split ! $ move ! (1 ∷ []) $ split ! $ move ! (1 ∷ []) $ split ! $ at_once ! $
-        -- [κ₃'s token; true; κ₂'s; κ₁'s; κ's; the last output; the other lasts; the last tallies; the last records]
+        fsplit ! $ drop ! $ fsplit ! $ fsplit ! $ fsplit ! $ move ! (1 ∷ []) $ feq_l ! (λ m. move ! (2 ∷ []) $ fsplit ! $ fsplit ! $ fsplit ! $ move ! (1 ∷ []) $ feq_l ! (λ m₁. move ! (2 ∷ []) $ fsplit ! $ drop ! $ fsplit ! $ fsplit ! $ fsplit ! $ move ! (1 ∷ []) $ feq_l ! (λ m₃.
+        -- [the last output; its borrow; the other lasts; the last tallies; their borrow; the last records; their borrow; the tokens and the result]
+        move ! (7 ∷ []) $ split ! $ move ! (1 ∷ []) $ facts ! O.the_row (Is O.the_row) (shows 𝓛 O.the_row) r (w ∷ []) (λ is. split ! $ move ! (1 ∷ []) $ split ! $ move ! (1 ∷ []) $ split ! $ move ! (1 ∷ []) $ split ! $ at_once ! $
+        -- [κ₃'s token; true; κ₂'s; κ₁'s; κ's; the last output; its borrow; the other lasts; the last tallies; their borrow; the last records; their borrow]
         show ! (λ (r' : Served). ex 𝓤 (λ (zs : List Settings). ex 𝓤 (λ (vs : List ℤ). ex 𝓤 (Done w r' zs vs)))) r $ show ! (λ (zs : List Settings). ex 𝓤 (λ (vs : List ℤ). ex 𝓤 (Done w r zs vs))) ws.1.0 $
         show ! (λ (vs : List ℤ). ex 𝓤 (Done w r ws.1.0 vs)) ws.1.1.0 $ show ! (Done w r ws.1.0 ws.1.1.0) ws.1.1.1.1.0 $
-        check ! is $ check ! (e, e₁, e₂, e₃) $ check ! m $ check ! m₁ $ check ! m₃ $ keep ! (8 ∷ 4 ∷ 7 ∷ 3 ∷ 2 ∷ 5 ∷ 0 ∷ []) $ done !))))))))))
+        check ! is $ check ! (e, e₁, e₂, e₃) $ check ! m $ check ! m₁ $ check ! m₃ $ keep ! (10 ∷ 4 ∷ 8 ∷ 3 ∷ 2 ∷ 5 ∷ 0 ∷ []) $ done !))))))))))
 
   -- ---- `next`: both as shared. There is a session
-  module _ (κ κ₁ : Lft) (q q₁ : Share) (made : Served) (u : Val) (b o n : ℕ) (γ : GName) (xs : List ℕ) (lf : ℕ) (b₁ o₁ n₁ : ℕ) (γ₁ : GName) (us : List ℕ) (made-is : Is O.the_row made (u ∷ [])) (lf-fits : lf < 2 ^ 64) where
-    abbrev args-n : Served × (MutBor (List ℕ) × (ℕ × (MutBor (List ℕ) × Unit {0})))
-    args-n = (made, (ref b o γ xs, (lf, (ref b₁ o₁ γ₁ us, tt))))
+  module _ (κ κ₁ : Lft) (q q₁ : Share) (made : Served) (u : Val) (b o n : ℕ) (xs : List ℕ) (lf : ℕ) (b₁ o₁ n₁ : ℕ) (us : List ℕ) (made-is : Is O.the_row made (u ∷ [])) (lf-fits : lf < 2 ^ 64) where
+    abbrev args-n : Served × (Bor (List ℕ) × (ℕ × (Bor (List ℕ) × Unit {0})))
+    args-n = (made, (shr b o xs, (lf, (shr b₁ o₁ us, tt))))
 
     abbrev pub to-next : Next.Ghost
     to-next = (((κ, (κ₁, tt)), (q, (q₁, tt)), tt, args-n, (u ∷ [], (slice_val (b, o) n ∷ [], (vint w64 lf ∷ [], (slice_val (b₁, o₁) n₁ ∷ [], tt))))), tt)
 
     abbrev In : Fml
-    In = (ShrSlice (named 0) κ u8).own_val (ref b o γ xs) (slice_val (b, o) n ∷ [])
+    In = (ShrSlice (named 0) κ u8).own_val (shr b o xs) (slice_val (b, o) n ∷ [])
 
     abbrev Out : Fml
-    Out = (ShrSlice (named 1) κ₁ u8).own_val (ref b₁ o₁ γ₁ us) (slice_val (b₁, o₁) n₁ ∷ [])
+    Out = (ShrSlice (named 1) κ₁ u8).own_val (shr b₁ o₁ us) (slice_val (b₁, o₁) n₁ ∷ [])
 
     abbrev Left : Val → Session → Val → SProp 𝓤
     Left w r lv = guard 𝓤 (w ≡ session_val lv r) (guard 𝓤 (Whole r lv) (guard 𝓤 (Follows made.line made.at xs lf (length us) r) (sep 𝓤 (A.lft κ q) (A.lft κ₁ q₁))))

@@ -97,7 +97,7 @@ pub(crate) fn serve_lines(
     s
 }
 
-// A session's end with the records that were lent to it. Whole values go in and out, which keeps the walk of `serve_block` small.
+// A session's end with the records that were lent to it. Whole values go in and out.
 pub(crate) fn rest(last: Session, settings: [Settings; RECORDS as usize]) -> Block
     ensures { (result.line ≡ last.line) × (result.settings ≡ settings) × (result.start ≡ last.start) × (result.at ≡ last.at) }
 {
