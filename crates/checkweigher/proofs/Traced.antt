@@ -12,7 +12,7 @@ use Prim.Native.Nat.{ℕ, ◌+◌, ◌-◌, ◌≤◌, ◌<◌}
 use native.Mathlib.Omega.{arith}
 use lib.Dec.{eqb, ltb}
 use lib.ListN.{length, take, drop, length-drop}
-use lib.Seq.{take-add, drop_at, drop-drop, length-take-le}
+use lib.Seq.{take-add, take-take, drop_at, drop-drop, length-take-le}
 use borrow.Author.Tests.{le-leb, ltb-true, ltb-false, eqb-true, eqb-false}
 use Rattle.laws.proofs.Tests.{by_cases, never}
 use Rattle.line.specs.State.{State, fresh_state}
@@ -21,10 +21,14 @@ use Rattle.blocks.specs.Left.{kept_bytes, least_of, last_of, bytes_left, past_of
 use Rattle.blocks.specs.declared.left.Left.{Left}
 use Rattle.blocks.specs.declared.output.Taken.{Taken}
 use Rattle.blocks.specs.Taken.{TakenOf}
+use Rattle.blocks.specs.Known.{Streams, streams, read_bytes, Drawn}
+use Rattle.blocks.proofs.Passing.{passed_none, passed_in, passed_end, passed_out}
+use Rattle.std.specs.Prelude.{Option}
+use Rattle.std.specs.Io.KnownBytes.{Consumes, Appends, IsAtEnd}
 use Rattle.controller.specs.Answer.{no_room}
 use Rattle.controller.specs.Input.{printed, program}
 use Rattle.sessions.specs.Sessions.{Says, AnsweredUpTo}
-use Rattle.checkweigher.specs.Traces.{GoesOn, written_in, Traced, Whole, Begun, CutShort}
+use Rattle.checkweigher.specs.Traces.{GoesOn, Gives, written_in, Traced, Whole, Begun, CutShort}
 use Rattle.checkweigher.proofs.Prints.{prints-none, prints-kept, prints-closed, kept_no_lf, ended-closed}
 
 written_none : written_in [] ≡ []
@@ -39,24 +43,27 @@ program-is : (input : List ℕ) → program input ≡ printed fresh_state input
 unfolding program
 program-is input = refl
 
-pub traced_fresh : Traced fresh_state [] false 0
-traced_fresh =
+pub traced_fresh : (x : Streams) → Traced x x fresh_state [] false 0
+traced_fresh x =
     record {
       input = [];
       written = [];
+      passed = rw written_none (passed_none x);
       turned = refl;
       prints = λ more _. rw written_none (program-is more);
       closed = λ e. never e;
     }
 
-module _ (s : State) (left : List ℕ) (last : Bool) (turns : ℕ) (t : Traced s left last turns) where
+module _ (before now : Streams) (s : State) (left : List ℕ) (last : Bool) (turns : ℕ) (t : Traced before now s left last turns) where
   -- the bytes from k on are left
-  pub traced_on : (p : State) (k : ℕ) (text : List ℕ) → Says s left p (drop k left) text → Traced p (drop k left) last (turns + 1)
-  traced_on p k text says =
+  pub traced_on : (p : State) (k : ℕ) (text : List ℕ) → Says s left p (drop k left) text → (holds : Option (List ℕ)) → Appends now.holds holds text
+      → Traced before (streams now.left holds) p (drop k left) last (turns + 1)
+  traced_on p k text says holds a =
       let n = t.turned in
       record {
         input = t.input;
         written = text ∷ t.written;
+        passed = rw (written-more text t.written) (passed_out before now t.input (written_in t.written) t.passed holds text a);
         turned = omega (arith, n);
         prints = λ more h.
             t.prints more h ∙ ap (λ (x : List ℕ). written_in t.written ++ x) (says more)
@@ -68,45 +75,49 @@ module _ (s : State) (left : List ℕ) (last : Bool) (turns : ℕ) (t : Traced s
   over_read : program t.input ≡ written_in t.written ++ printed s (left ++ [])
   over_read = ap program (sym (append-nil t.input)) ∙ t.prints [] (λ _. refl)
 
-  pub traced_begun : Begun turns
-  traced_begun = record { input = t.input; written = t.written; rest = printed s (left ++ []); turned = t.turned; begun = over_read }
+  pub traced_begun : Begun before now turns
+  traced_begun = record { input = t.input; written = t.written; passed = t.passed; rest = printed s (left ++ []); turned = t.turned; begun = over_read }
 
-  pub traced_cut : (p : State) (rest text : List ℕ) → Says s left p rest text → (taken : Taken) → length text ≡ taken.of → taken.taken < taken.of → CutShort taken
-  traced_cut p rest text says taken size less =
+  pub traced_cut : (p : State) (rest text : List ℕ) → Says s left p rest text → (taken : Taken) → length text ≡ taken.of → taken.taken < taken.of
+      → (holds : Option (List ℕ)) → Appends now.holds holds (take taken.taken text) → CutShort before (streams now.left holds) taken
+  traced_cut p rest text says taken size less holds a =
       record {
         input = t.input;
         written = t.written;
         due = text;
+        passed = passed_out before now t.input (written_in t.written) t.passed holds (take taken.taken text) a;
         rest = printed p (rest ++ []);
         size = size;
         less = less;
         begun = over_read ∙ ap (λ (x : List ℕ). written_in t.written ++ x) (says []) ∙ sym (append_assoc (written_in t.written) text (printed p (rest ++ [])));
       }
 
-  pub traced_ends : last ≡ true → NoLf left → Whole
+  pub traced_ends : last ≡ true → NoLf left → Whole before now
   traced_ends e h =
       let none : left ≡ [] = t.closed e 0 h in
       record {
         input = t.input;
         written = t.written;
+        passed = t.passed;
         whole =
             sym (over_read
             ∙ ap (λ (x : List ℕ). written_in t.written ++ printed s (x ++ [])) none
             ∙ ap (λ (x : List ℕ). written_in t.written ++ x) (prints-none s) ∙ append-nil (written_in t.written));
       }
 
-module _ (s : State) (left : List ℕ) (turns : ℕ) (t : Traced s left false turns) (none : NoLf left) where
+module _ (before now : Streams) (s : State) (left : List ℕ) (turns : ℕ) (t : Traced before now s left false turns) (none : NoLf left) where
   abbrev kept : List ℕ
   kept = take kept_bytes left
 
   more-prints : (new more : List ℕ) → program (t.input ++ (new ++ more)) ≡ written_in t.written ++ printed s (kept ++ (new ++ more))
   more-prints new more = t.prints (new ++ more) (λ e. never e) ∙ ap (λ (x : List ℕ). written_in t.written ++ x) (prints-kept s left (new ++ more) none)
 
-  traced_new : (new : List ℕ) → Traced s (kept ++ new) false turns
-  traced_new new =
+  traced_new : (reads : Option (List ℕ)) (new : List ℕ) → Consumes now.left reads new → Traced before (streams reads now.holds) s (kept ++ new) false turns
+  traced_new reads new c =
       record {
         input = t.input ++ new;
         written = t.written;
+        passed = passed_in before now t.input (written_in t.written) t.passed reads new c;
         turned = t.turned;
         prints = λ more _.
             ap program (append_assoc t.input new more) ∙ more-prints new more
@@ -114,11 +125,12 @@ module _ (s : State) (left : List ℕ) (turns : ℕ) (t : Traced s left false tu
         closed = λ e. never e;
       }
 
-  traced_last : Traced s (kept ++ at_end kept) true turns
-  traced_last =
+  traced_last : (reads : Option (List ℕ)) → Consumes now.left reads [] → Traced before (streams reads now.holds) s (kept ++ at_end kept) true turns
+  traced_last reads c =
       record {
         input = t.input;
         written = t.written;
+        passed = passed_end before now t.input (written_in t.written) t.passed reads c;
         turned = t.turned;
         prints = λ more h.
             rw (h refl) (
@@ -127,11 +139,18 @@ module _ (s : State) (left : List ℕ) (turns : ℕ) (t : Traced s left false tu
         closed = λ _. ended-closed kept;
       }
 
-  pub traced_more : (l : Left) (input : List ℕ) → Filled kept l input → Traced s (bytes_left l input) (last_of l) turns
-  traced_more l input f =
+  pub traced_more : (l : Left) (input : List ℕ) → Filled kept l input → (reads : Option (List ℕ)) → Drawn now.left reads kept l input
+      → Traced before (streams reads now.holds) s (bytes_left l input) (last_of l) turns
+  traced_more l input f reads d =
       by_cases (last_of l)
-      (λ y. let e : bytes_left l input ≡ kept ++ at_end kept = rw y at f.bytes in rw (e, y) traced_last)
-      (λ n. let e : bytes_left l input ≡ kept ++ f.new = rw n at f.bytes in rw (e, n) (traced_new f.new))
+      (λ y.
+      let e : bytes_left l input ≡ kept ++ at_end kept = rw y at f.bytes in
+      let none-read : read_bytes kept l input ≡ [] = rw y refl in
+      rw (e, y) (traced_last reads (subst (Consumes now.left reads) none-read d.given)))
+      (λ n.
+      let e : bytes_left l input ≡ kept ++ f.new = rw n at f.bytes in
+      let new-read : read_bytes kept l input ≡ f.new = rw (n, e) (drop_at kept f.new (length kept) refl) in
+      rw (e, n) (traced_new reads f.new (subst (Consumes now.left reads) new-read d.given)))
 
 -- ---- the bytes from start to end, as a part of the buffer and as what is left of it
 part-is : (l : List ℕ) (start end : ℕ) → start ≤ end → end ≤ length l → drop start (take end l) ≡ take (end - start) (drop start l)
@@ -167,8 +186,8 @@ below a b h n =
     (λ z. let g = ltb-false a b z in absurd (n (omega (arith, h, g))))
 
 -- ---- a turn: a block is served, and its answers written
-module _ (input out : List ℕ) (left : Left) (s p : State) (turns k at : ℕ) (order : left.start ≤ left.end) (within : left.end ≤ length input)
-    (t : Traced s (bytes_left left input) (last_of left) turns)
+module _ (before now : Streams) (input out : List ℕ) (left : Left) (s p : State) (turns k at : ℕ) (order : left.start ≤ left.end) (within : left.end ≤ length input)
+    (t : Traced before now s (bytes_left left input) (last_of left) turns)
     (a : AnsweredUpTo s (take (left.end - left.start) (drop left.start input)) (take (left.end - left.start) (drop left.start input)) out p k at) where
   abbrev part : bytes_left left input ≡ take (left.end - left.start) (drop left.start input)
   part = part-is input left.start left.end order within
@@ -188,39 +207,54 @@ module _ (input out : List ℕ) (left : Left) (s p : State) (turns k at : ℕ) (
       let h = g.within in
       (e ∙ least, omega (arith, e, h))
 
-  pub turn-cut : (taken : Taken) → TakenOf (least_of at (length out)) taken → eqb taken.taken taken.of ≡ false → CutShort taken
-  turn-cut taken g n =
+  pub turn-cut : (taken : Taken) → TakenOf (least_of at (length out)) taken → eqb taken.taken taken.of ≡ false
+      → (holds : Option (List ℕ)) → Appends now.holds holds (take taken.taken out) → CutShort before (streams now.left holds) taken
+  turn-cut taken g n holds w =
       let h = given taken g in
       let d = eqb-false taken.taken taken.of n in
       let most = h.1 in
       let size : length (take at out) ≡ taken.of = length-take-le at out a.fits ∙ sym h.0 in
-      traced_cut s (bytes_left left input) (last_of left) turns t p (drop k (bytes_left left input)) (take at out) says taken size (below taken.taken taken.of most d)
+      let e = h.0 in
+      let part : take taken.taken (take at out) ≡ take taken.taken out = take-take taken.taken at out (omega (arith, most, e)) in
+      traced_cut before now s (bytes_left left input) (last_of left) turns t p (drop k (bytes_left left input)) (take at out) says taken size (below taken.taken taken.of most d) holds
+      (subst (Appends now.holds holds) (sym part) w)
 
   -- all of it was taken
-  module _ (taken : Taken) (g : TakenOf (least_of at (length out)) taken) (all : eqb taken.taken taken.of ≡ true) where
+  module _ (taken : Taken) (g : TakenOf (least_of at (length out)) taken) (all : eqb taken.taken taken.of ≡ true)
+      (holds : Option (List ℕ)) (w : Appends now.holds holds (take taken.taken out)) where
     took : taken.taken ≡ at
     took = eqb-true taken.taken taken.of all ∙ (given taken g).0
 
     wrote : Says s (bytes_left left input) p (drop k (bytes_left left input)) (take taken.taken out)
     wrote = rw took says
 
-    turned : Traced p (drop k (bytes_left left input)) (last_of left) (turns + 1)
-    turned = traced_on s (bytes_left left input) (last_of left) turns t p k (take taken.taken out) wrote
+    turned : Traced before (streams now.left holds) p (drop k (bytes_left left input)) (last_of left) (turns + 1)
+    turned = traced_on before now s (bytes_left left input) (last_of left) turns t p k (take taken.taken out) wrote holds w
 
     none_left_lem : no_room (length out) at ≡ false → NoLf (drop k (bytes_left left input))
     none_left_lem e = rw part (a.all e)
 
-    pub turn-ends : no_room (length out) at ≡ false → last_of left ≡ true → Whole
-    turn-ends e y = traced_ends p (drop k (bytes_left left input)) (last_of left) (turns + 1) turned y (none_left_lem e)
+    pub turn-ends : no_room (length out) at ≡ false → last_of left ≡ true → Whole before (streams now.left holds)
+    turn-ends e y = traced_ends before (streams now.left holds) p (drop k (bytes_left left input)) (last_of left) (turns + 1) turned y (none_left_lem e)
 
     pub turn-goes : (full : Bool) → full ≡ no_room (length out) at → not full && last_of left ≡ false → kept_bytes < length input
         → (l : Left) (after : List ℕ) → GoesOn full (past_of left k) input l after
-        → (length after ≡ length input) × (l.start ≤ l.end) × (l.end ≤ length input) × Traced p (bytes_left l after) (last_of l) (turns + 1)
-    turn-goes true e n big l after g =
+        → (reads : Option (List ℕ)) → Gives full (past_of left k) input now.left reads l after → (left.over ≡ 1 → IsAtEnd now.left)
+        → (length after ≡ length input) × (l.start ≤ l.end) × (l.end ≤ length input) × Traced before (streams reads holds) p (bytes_left l after) (last_of l) (turns + 1)
+        × (l.over ≡ 1 → IsAtEnd reads)
+    turn-goes true e n big l after g reads d z =
         let on = past_is left input k stays in
-        rw (g.0, g.1) (refl, past_order left k stays, within, subst (λ (x : List ℕ). Traced p x (last_of left) (turns + 1)) (sym on) turned)
-    turn-goes false e n big l after g =
-        let f : Filled (take kept_bytes (drop k (bytes_left left input))) l after = subst (λ (x : List ℕ). Filled (take kept_bytes x) l after) (past_is left input k stays) (g.filled big) in
+        rw (g.0, g.1, d) (refl, past_order left k stays, within, subst (λ (x : List ℕ). Traced before (streams now.left holds) p x (last_of left) (turns + 1)) (sym on) turned, z)
+    turn-goes false e n big l after g reads d z =
+        let is = past_is left input k stays in
+        let f : Filled (take kept_bytes (drop k (bytes_left left input))) l after = subst (λ (x : List ℕ). Filled (take kept_bytes x) l after) is (g.filled big) in
+        let drawn : Drawn now.left reads (take kept_bytes (drop k (bytes_left left input))) l after = subst (λ (x : List ℕ). Drawn now.left reads (take kept_bytes x) l after) is (d big) in
         let m = g.same_length in
-        let w = f.within in
-        (m, f.order, omega (arith, m, w), traced_more p (drop k (bytes_left left input)) (turns + 1) (subst (λ (x : Bool). Traced p (drop k (bytes_left left input)) x (turns + 1)) n turned) (none_left_lem (sym e)) l after f)
+        let v = f.within in (
+          m,
+          f.order,
+          omega (arith, m, v),
+          traced_more before (streams now.left holds) p (drop k (bytes_left left input)) (turns + 1)
+              (subst (λ (x : Bool). Traced before (streams now.left holds) p (drop k (bytes_left left input)) x (turns + 1)) n turned) (none_left_lem (sym e)) l after f reads drawn,
+          drawn.ended,
+        )

@@ -1,7 +1,8 @@
 // The input to the output, until the input ends.
 ghost use Rattle.std.specs.Prelude.{◌≡◌, length};
 ghost use Rattle.controller.specs.Answer.{no_room};
-ghost use Rattle.checkweigher.specs.Traces.{GoesOn, EndsSo};
+ghost use Rattle.blocks.specs.Known.{streams};
+ghost use Rattle.checkweigher.specs.Traces.{GoesOn, Gives, EndsSo};
 
 use blocks::{Left, Taken, large_buffer, write_out};
 use controller::no_room;
@@ -28,7 +29,8 @@ fn is_full(out: &[u8], at: usize) -> bool
 
 // More is read where no line is left that is complete.
 fn go_on<R: Read>(reader: &mut R, input: &mut [u8], rest: Left, full: bool) -> Left
-    ensures { GoesOn full rest input.old result input.new }
+    ensures goes_on { GoesOn full rest input.old result input.new }
+    ensures gives { Gives full rest input.old (R.remaining reader.old) (R.remaining reader.new) result input.new }
 {
     if full {
         return rest;
@@ -39,7 +41,7 @@ fn go_on<R: Read>(reader: &mut R, input: &mut [u8], rest: Left, full: bool) -> L
 // From a fresh line and memory: the lines in the buffer that are complete are answered, as many as the output has room for,
 // and the answers written; where none is left, more is read.
 pub(crate) fn serve_input<R: Read, W: Write>(reader: &mut R, writer: &mut W) -> Ended
-    ensures { EndsSo result }
+    ensures { EndsSo (streams (R.remaining reader.old) (W.contents writer.old)) (streams (R.remaining reader.new) (W.contents writer.new)) result }
 {
     let mut input = large_buffer();
     let mut out = large_buffer();
