@@ -82,7 +82,7 @@ impl Line {
         }
     }
 
-    // The walk of `apply` passes the line whole: to take a struct apart in it is dear.
+    // The active code by a call of its own: `apply` passes the line whole, and reads no field of it.
     pub(crate) fn active_code(self) -> u64
         ensures { result ≡ self.code }
     {
