@@ -2,7 +2,7 @@
 ghost use Rattle.sheet.specs.Apart.{Apart};
 ghost use Rattle.sheet.specs.Bench.{Bench};
 
-// No list of weights makes a tally that a report refuses for S² ≤ typeof.n.Q.
+// No list of weights makes a tally that a report refuses for S² ≤ n·Q.
 pub fn always_apart()
     ensures { Apart }
 {}
