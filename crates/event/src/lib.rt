@@ -26,8 +26,8 @@ pub struct SorterSetup {
     pub sort: u64,
 }
 
-// What stopped status lets one set up: timers are in ticks of 10 ms, 0 or 1 to 9,999; masks are 0 to 255. An event holds it,
-// and an enum that holds an array is not covered: so the sorters are six fields, and `sorters` gives them as an array.
+// What stopped status lets one set up: timers are in ticks of 10 ms, 0 or 1 to 9,999; masks are 0 to 255. The six
+// sorters are fields, by the names that the setup line has for them, and `sorters` gives them as an array.
 #[derive(Clone, Copy)]
 pub struct Setup {
     // 1 in through, 2 stop, 4 bench
