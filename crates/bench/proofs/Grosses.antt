@@ -3,23 +3,22 @@
 use mathlib.Core.Path.{◌≡◌, refl}
 use mathlib.Core.Bool.{Bool, true, false, ◌&&◌, not}
 use mathlib.Core.List.{List, [], ◌∷◌, ◌++◌}
-use Prim.Native.Nat.{ℕ, zero, suc, ◌+◌, ◌-◌, ◌≤◌, ◌<◌}
+use Prim.Native.Nat.{ℕ, zero, suc, ◌+◌, ◌-◌, ◌≤◌, ◌<◌, min}
 use native.Mathlib.Omega.{arith}
-use native.Mathlib.Numerals.{add-one}
 use lib.Dec.{leb, ltb, eqb}
 use lib.IntN.{ℤ, pos, negsuc}
 use lib.Signed.{le_z, lt_z}
-use lib.ListN.{length, get_or, set, take, drop, length-take}
-use lib.Seq.{take-append_seam, take-take, take_all, take-suc, length-take-le}
+use Rattle.std.specs.Int.{int_max, int_min}
+use lib.ListN.{length, get_or, take, drop, replicate, length-take}
+use Rattle.std.proofs.lemmas.List.{drop-replicate}
+use lib.Seq.{take-append_seam, take-take, take_all, length-take-le}
 use borrow.Author.Tests.{le-leb, lt-leb, ltb-true, ltb-false, not-true}
 use Rattle.laws.specs.Choice.{when◌then◌else◌}
 use Rattle.laws.proofs.Tests.{both, and_intro, by_cases, if_ind, never}
 use Rattle.weight.specs.Weight.{is_weight}
 use Rattle.lists.specs.Each.{all_of, folded}
-use Rattle.lists.specs.Places.{in_places}
 use Rattle.lists.proofs.Each.{folded_keeps}
-use Rattle.lists.proofs.Places.{put_last}
-use Rattle.bench.specs.Bench.{last_ticks, grosses_of, keeping, with_armed, begun, pushed, ticked_on, larger, smaller, largest_of, smallest_of, steady, detects, disarmed, bench_fit}
+use Rattle.bench.specs.Bench.{last_ticks, grosses_of, keeping, with_armed, begun, pushed, ticked_on, largest_of, smallest_of, steady, detects, disarmed, bench_fit}
 use Rattle.bench.specs.declared.Bench.{Bench}
 
 -- the grosses of a list laid out are the list
@@ -28,45 +27,48 @@ unfolding grosses_of keeping
 grosses_laid armed l = take-append_seam l _
 
 -- beside one more, all of fewer than ten stay, and the newest nine of ten
-pub newest : (n : ℕ) (l : List ℤ) → take 9 (take n l) ≡ take (when ltb n last_ticks then n else last_ticks - 1) l
+newest : (n : ℕ) (l : List ℤ) → take 9 (take n l) ≡ take (min n 9) l
 newest n l =
     by_cases (ltb n last_ticks)
-    (λ h. rw h (take_all 9 (take n l) (omega (arith, length-take n l, ltb-true n last_ticks h))))
-    (λ h. rw h (take-take 9 n l (omega (arith, ltb-false n last_ticks h))))
+    (λ h. let e : min n 9 ≡ n = omega (arith, ltb-true n last_ticks h) in rw e (take_all 9 (take n l) (omega (arith, length-take n l, ltb-true n last_ticks h))))
+    (λ h. let e : min n 9 ≡ 9 = omega (arith, ltb-false n last_ticks h) in rw e (take-take 9 n l (omega (arith, ltb-false n last_ticks h))))
 
--- a gross and those before place i behind it, one more put last
-pub push_next :
-    (x : ℤ) (l : List ℤ) (i : ℕ) → i < length l → i + 1 < last_ticks
-    → set (in_places last_ticks (pos 0) (x ∷ take i l)) (i + 1) (get_or l i (pos 0)) ≡ in_places last_ticks (pos 0) (x ∷ take (i + 1) l)
-push_next x l i h m =
-    let e : i + 1 ≡ length (x ∷ take i l) = omega (arith, length-take-le i l (omega arith)) in
-    let more : take (i + 1) l ≡ take i l ++ get_or l i (pos 0) ∷ [] = rw (add-one, take-suc l i (pos 0) h) in
-    rw more (put_last last_ticks (pos 0) (x ∷ take i l) (i + 1) (get_or l i (pos 0)) e m)
+-- a gross, behind it the k that stay, and zeros in the other places
+pub laid_behind :
+    (armed : ℕ) (x : ℤ) (n k : ℕ) (l : List ℤ) → length l ≡ last_ticks → k ≡ min n 9
+    → ◌≡◌ {A = Bench} (record { armed = armed; grosses = x ∷ (take k l ++ drop (k + 1 - 1) (replicate 9 (pos 0))); n = k + 1 })
+    (keeping armed (x ∷ take 9 (take n l)))
+unfolding keeping
+laid_behind armed x n k l h e =
+    let c : length (take k l) ≡ k = length-take-le k l (omega arith) in
+    let places : 9 - (k + 1 - 1) ≡ last_ticks - suc k = omega arith in
+    let more : k + 1 ≡ suc k = omega arith in
+    rw (newest n l, ← e, c, drop-replicate {X = ℤ} (k + 1 - 1) 9 (pos 0), places, more)
 
 -- ---- the largest and the smallest
 
-larger-weight : (x y : ℤ) → is_weight x ≡ true → is_weight y ≡ true → is_weight (larger x y) ≡ true
-larger-weight x y h k = if_ind (λ (z : ℤ). is_weight z ≡ true) (lt_z x y) _ _ (λ _. k) (λ _. h)
+larger-weight : (x y : ℤ) → is_weight x ≡ true → is_weight y ≡ true → is_weight (int_max x y) ≡ true
+larger-weight x y h k = if_ind (λ (z : ℤ). is_weight z ≡ true) (lt_z y x) x y (λ _. h) (λ _. k)
 
-smaller-weight : (x y : ℤ) → is_weight x ≡ true → is_weight y ≡ true → is_weight (smaller x y) ≡ true
-smaller-weight x y h k = if_ind (λ (z : ℤ). is_weight z ≡ true) (lt_z y x) _ _ (λ _. k) (λ _. h)
+smaller-weight : (x y : ℤ) → is_weight x ≡ true → is_weight y ≡ true → is_weight (int_min x y) ≡ true
+smaller-weight x y h k = if_ind (λ (z : ℤ). is_weight z ≡ true) (lt_z y x) y x (λ _. k) (λ _. h)
 
 pub largest_weight_lem : (l : List ℤ) → all_of is_weight l ≡ true → is_weight (largest_of l) ≡ true
 unfolding all_of
 largest_weight_lem [] h = refl
-largest_weight_lem (x ∷ l) h = let b = both (is_weight x) (all_of is_weight l) h in folded_keeps larger is_weight larger-weight l x b.0 b.1
+largest_weight_lem (x ∷ l) h = let b = both (is_weight x) (all_of is_weight l) h in folded_keeps int_max is_weight larger-weight l x b.0 b.1
 
 pub smallest-weight : (l : List ℤ) → all_of is_weight l ≡ true → is_weight (smallest_of l) ≡ true
 unfolding all_of
 smallest-weight [] h = refl
-smallest-weight (x ∷ l) h = let b = both (is_weight x) (all_of is_weight l) h in folded_keeps smaller is_weight smaller-weight l x b.0 b.1
+smallest-weight (x ∷ l) h = let b = both (is_weight x) (all_of is_weight l) h in folded_keeps int_min is_weight smaller-weight l x b.0 b.1
 
 -- from the first on
-pub largest-first : (l : List ℤ) → 0 < length l → largest_of l ≡ folded larger (get_or l 0 (pos 0)) (drop 1 l)
+pub largest-first : (l : List ℤ) → 0 < length l → largest_of l ≡ folded int_max (get_or l 0 (pos 0)) (drop 1 l)
 largest-first [] h = absurd (omega arith)
 largest-first (x ∷ l) h = refl
 
-pub smallest-first : (l : List ℤ) → 0 < length l → smallest_of l ≡ folded smaller (get_or l 0 (pos 0)) (drop 1 l)
+pub smallest-first : (l : List ℤ) → 0 < length l → smallest_of l ≡ folded int_min (get_or l 0 (pos 0)) (drop 1 l)
 smallest-first [] h = absurd (omega arith)
 smallest-first (x ∷ l) h = refl
 

@@ -1,5 +1,6 @@
 -- 02, T-02 "Bench mode": what is kept of the running ticks, what arms the line, and when a box lies still on the plate.
 use Rattle.std.specs.Prelude.{ℕ, Bool, ◌&&◌, not, List, [], ◌∷◌, eqb, leb, ℤ, pos, ◌-ℤ◌, length, take}
+use Rattle.std.specs.Int.{int_max, int_min}
 use Rattle.std.specs.Int.Signed.{le_z, lt_z}
 use Rattle.laws.specs.Choice.{when◌then◌else◌}
 use Rattle.lists.specs.Each.{all_of, folded}
@@ -43,20 +44,14 @@ unfoldable pub ticked_on : Bench → ℤ → ℤ → Bench
 ticked_on b gross nearzero =
     when le_z gross nearzero then with_armed (pushed b gross) 1 else pushed b gross
 
-abbrev pub larger : ℤ → ℤ → ℤ
-larger x y = when lt_z x y then y else x
-
-abbrev pub smaller : ℤ → ℤ → ℤ
-smaller x y = when lt_z y x then y else x
-
 -- the largest and the smallest of a list
 abbrev pub largest_of : List ℤ → ℤ
 largest_of [] = pos 0
-largest_of (x ∷ l) = folded larger x l
+largest_of (x ∷ l) = folded int_max x l
 
 abbrev pub smallest_of : List ℤ → ℤ
 smallest_of [] = pos 0
-smallest_of (x ∷ l) = folded smaller x l
+smallest_of (x ∷ l) = folded int_min x l
 
 -- "A line is fit only if the grosses kept for this are at most 10, all weights."
 unfoldable pub bench_fit : Bench → Bool

@@ -2,40 +2,22 @@
 // mode keeps none, and then each test of them costs one comparison.
 #![tactic(auto)]
 
-ghost use Rattle.std.specs.Prelude.{◌≡◌, true, ◌-ℤ◌, ◌-◌, ltb};
+ghost use Rattle.std.specs.Prelude.{◌≡◌, true, ◌-ℤ◌};
 ghost use Rattle.lists.specs.Each.{all_of};
 ghost use Rattle.weight.specs.Weight.{is_weight};
-ghost use Rattle.laws.specs.Choice.{when◌then◌else◌};
-ghost use Rattle.bench.specs.Bench.{last_ticks, fresh_bench, with_armed, begun, pushed, ticked_on, larger, smaller, largest_of, smallest_of, steady, detects, disarmed, bench_fit};
+ghost use Rattle.bench.specs.Bench.{fresh_bench, with_armed, begun, pushed, ticked_on, largest_of, smallest_of, steady, detects, disarmed, bench_fit};
 
 use weight::is_weight;
 
 #[derive(Clone, Copy)]
 pub struct Bench {
-    // 0 if not armed
+    // 0 if not armed: a number as it comes in, of which each but 0 arms
     pub armed: u64,
-    // divisions, the newest first: the first n are kept, the others hold 0 and are not read
+    // divisions, the newest first: the first n are kept, the others hold 0 and are not read. There is no heap, and an unfit n
+    // comes in and is to be refused
     pub grosses: [i64; Bench::TICKS as usize],
     // 0 to 10
     pub n: u64,
-}
-
-fn larger(x: i64, y: i64) -> i64
-    ensures { result ≡ larger x y }
-{
-    if x < y {
-        return y;
-    }
-    x
-}
-
-fn smaller(x: i64, y: i64) -> i64
-    ensures { result ≡ smaller x y }
-{
-    if y < x {
-        return y;
-    }
-    x
 }
 
 // The largest gross less the smallest.
@@ -45,12 +27,9 @@ fn apart(grosses: [i64; Bench::TICKS as usize]) -> i64
 {
     let mut largest = grosses[0];
     let mut smallest = grosses[0];
-    let mut i: usize = 1;
-    while i < Bench::TICKS as usize {
-        let gross = grosses[i];
-        largest = larger(largest, gross);
-        smallest = smaller(smallest, gross);
-        i += 1;
+    for gross in &grosses[1..] {
+        largest = largest.max(*gross);
+        smallest = smallest.min(*gross);
     }
     largest - smallest
 }
@@ -63,6 +42,7 @@ impl Bench {
     pub const APART: i64 = 2;
 
     // Not armed, and no gross kept.
+    #[tactic(auto, unfolding(crate::specs::Bench::keeping))]
     pub fn fresh() -> Bench
         ensures { result ≡ fresh_bench }
     {
@@ -81,40 +61,21 @@ impl Bench {
     }
 
     // An accepted run: from stopped it arms, and the grosses before it are forgotten.
-    #[tactic(auto, unfolding(crate::specs::Bench::begun))]
+    #[tactic(auto, unfolding(crate::specs::Bench::begun, crate::specs::Bench::keeping))]
     pub fn begun(self, stopped: bool) -> Bench
         ensures { result ≡ begun self stopped }
     {
-        let fresh = Bench::fresh();
-        if stopped {
-            return fresh.with_armed(1);
-        }
-        fresh.with_armed(self.armed)
-    }
-
-    // How many stay beside one more: all but the oldest of ten.
-    fn staying(self) -> u64
-        ensures { result ≡ (when ltb self.n last_ticks then self.n else last_ticks - 1) }
-    {
-        if self.n < Bench::TICKS {
-            return self.n;
-        }
-        Bench::TICKS - 1
+        Bench::fresh().with_armed(if stopped { 1 } else { self.armed })
     }
 
     // One gross more; of eleven the oldest is forgotten.
     fn pushed(self, gross: i64) -> Bench
         ensures { result ≡ pushed self gross }
     {
-        let before = self.grosses;
-        let n = self.staying() as usize;
+        let n = self.n.min(Bench::TICKS - 1) as usize;
         let mut grosses = [0i64; Bench::TICKS as usize];
         grosses[0] = gross;
-        let mut i: usize = 0;
-        while i < n {
-            grosses[i + 1] = before[i];
-            i += 1;
-        }
+        grosses[1..n + 1].copy_from_slice(&self.grosses[..n]);
         Bench {
             armed: self.armed,
             grosses: grosses,
@@ -145,8 +106,7 @@ impl Bench {
         if !self.fit() {
             return false;
         }
-        let grosses = self.grosses;
-        apart(grosses) <= Bench::APART
+        apart(self.grosses) <= Bench::APART
     }
 
     // An armed line, the gross above nearzero and lying still: a box.
@@ -154,10 +114,7 @@ impl Bench {
     pub fn detects(self, gross: i64, nearzero: i64) -> bool
         ensures { result ≡ detects self gross nearzero }
     {
-        if (self.armed != 0) & (nearzero < gross) {
-            return self.steady();
-        }
-        false
+        ((self.armed != 0) & (nearzero < gross)) && self.steady()
     }
 
     // A detection disarms.
@@ -175,16 +132,8 @@ impl Bench {
         if Bench::TICKS < self.n {
             return false;
         }
-        let grosses = self.grosses;
-        let n = self.n as usize;
-        let mut i: usize = 0;
-        while i < n {
-            let gross = grosses[i];
-            if !is_weight(gross) {
-                return false;
-            }
-            i += 1;
-        }
-        true
+        self.grosses[..self.n as usize]
+            .iter()
+            .all(|gross| is_weight(*gross))
     }
 }

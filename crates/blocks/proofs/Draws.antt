@@ -2,7 +2,6 @@
 use mathlib.Core.Path.{◌≡◌, refl, sym, ap, subst, ◌∙◌}
 use mathlib.Core.List.{List, [], ◌++◌}
 use Prim.Native.Nat.{ℕ, zero, suc, ◌+◌, ◌<◌}
-use native.Mathlib.Omega.{arith}
 use lib.ListN.{length, take, drop}
 use lib.Seq.{drop_at, take_at, take-add, take-append-le}
 use Rattle.std.specs.Prelude.{Option, Result, Ok, Err, None, Some}
@@ -10,6 +9,7 @@ use Rattle.std.specs.Result.{result_unwrap_or}
 use Rattle.std.specs.Io.{ReadsAtMost}
 use Rattle.std.specs.Io.KnownBytes.{Consumes, Keeps, ReadConsumes}
 use Rattle.blocks.specs.Left.{standing, answer}
+use Rattle.blocks.specs.declared.left.Standing.{Standing}
 use Rattle.blocks.specs.Known.{Drawn}
 
 pub kept_none : (a b : Option (List ℕ)) → Keeps a b → Consumes a b []
@@ -25,7 +25,7 @@ behind front part n =
     ∙ ap (take n) (drop_at front part (length front) refl)
 
 -- `part` is what the read left of the buffer behind the bytes that are held
-pub draws : {E : Type 0} (a b : Option (List ℕ)) (r : Result ℕ E) (front part rest : List ℕ) (held n over : ℕ)
+pub draws : {E : Type 0} (a b : Option (List ℕ)) (r : Result ℕ E) (front part rest : List ℕ) (held n : ℕ) (over : Standing)
     → length front ≡ held → n ≡ result_unwrap_or r 0 → over ≡ standing (answer r) → ReadsAtMost r part → ReadConsumes a b r part → 0 < length part
     → Drawn a b front (record { start = 0; end = held + n; over = over }) (front ++ (part ++ rest))
 draws a b (Ok zero) front part rest held n over long counted stands fits reads some =
@@ -33,6 +33,6 @@ draws a b (Ok zero) front part rest held n over long counted stands fits reads s
 draws a b (Ok (suc k)) front part rest held n over long counted stands fits reads some =
     let read : drop (length front) (take (length front + suc k) (front ++ (part ++ rest))) ≡ take (suc k) part =
     behind front (part ++ rest) (suc k) ∙ take-append-le (suc k) part rest fits.0 in
-    rw (← long, counted, stands) (record { given = subst (Consumes a b) (sym read) reads.0; ended = λ h. absurd (omega (arith, h)) })
+    rw (← long, counted, stands) (record { given = subst (Consumes a b) (sym read) reads.0; ended = λ h. cc })
 draws a b (Err e) front part rest held n over long counted stands fits reads some =
-    rw stands (record { given = kept_none a b reads; ended = λ h. absurd (omega (arith, h)) })
+    rw stands (record { given = kept_none a b reads; ended = λ h. cc })

@@ -3,30 +3,30 @@
 --     fills-none     none was read, and none is held
 --     fills-end      none was read, and an LF ends the bytes that are held
 use mathlib.Core.Path.{◌≡◌, refl, sym, ap, ◌∙◌}
-use mathlib.Core.Logic.{◌≢◌}
+use mathlib.Core.Bool.{true, false}
 use mathlib.Core.List.{List, [], ◌∷◌, ◌++◌}
 use Prim.Native.Nat.{ℕ, zero, suc, ◌+◌, ◌≤◌, ◌<◌}
 use native.Mathlib.Omega.{arith}
 use native.Mathlib.Numerals.{add-one}
-use lib.IntN.{ℤ, pos, negsuc}
 use lib.ListN.{length, take, drop, set, length-drop, length-set}
 use lib.Seq.{take-add, take-suc-set, length-take-le}
-use borrow.Author.Tests.{ne_eqb}
+use Rattle.std.specs.Prelude.{Option, None, Some}
+use Rattle.laws.proofs.Tests.{never}
 use Rattle.decimal.specs.Bytes.{lf}
 use Rattle.blocks.specs.declared.left.Left.{Left}
-use Rattle.blocks.specs.Left.{standing, count_of, at_end, ReadBehind, Filled}
+use Rattle.blocks.specs.Left.{standing, is_over, last_of, count_of, at_end, ReadBehind, Filled}
 
-none_counted_lem : (z : ℤ) → standing z ≢ 0 → count_of z ≡ 0
-none_counted_lem (pos zero) h = refl
-none_counted_lem (pos (suc k)) h = absurd (h refl)
-none_counted_lem (negsuc k) h = refl
+none_counted_lem : (got : Option ℕ) → is_over (standing got) ≡ true → count_of got ≡ 0
+none_counted_lem (Some zero) h = refl
+none_counted_lem (Some (suc k)) h = never h
+none_counted_lem None h = refl
 
 ends_it : (held : List ℕ) → 0 < length held → at_end held ≡ lf ∷ []
 ends_it [] h = absurd (omega (arith, h))
 ends_it (b ∷ t) h = refl
 
 module _ (before after : List ℕ) (held : ℕ) (l : Left) (r : ReadBehind before held l after) where
-  pub fills_more : l.over ≡ 0 → Filled (take held before) l after
+  pub fills_more : last_of l ≡ false → Filled (take held before) l after
   fills_more more =
       let count = count_of r.got in
       let w : held + count ≤ length after = let e = r.counted in let h = r.within in omega (arith, e, h) in
@@ -41,9 +41,9 @@ module _ (before after : List ℕ) (held : ℕ) (l : Left) (r : ReadBehind befor
         bytes = rw (r.first, r.counted, more) (take-add held count after ∙ ap (λ (t : List ℕ). t ++ take count (drop held after)) r.held_stay);
       }
 
-  module _ (over : l.over ≢ 0) where
+  module _ (over : last_of l ≡ true) where
     none : count_of r.got ≡ 0
-    none = none_counted_lem r.got (λ e. over (r.stands ∙ e))
+    none = none_counted_lem r.got (ap is_over (sym r.stands) ∙ over)
 
     pub fills-none : held ≡ 0 → Filled (take held before) l after
     fills-none empty =
@@ -55,7 +55,7 @@ module _ (before after : List ℕ) (held : ℕ) (l : Left) (r : ReadBehind befor
           counted = sym none;
           order = let e = r.first in omega (arith, e);
           within = r.within;
-          bytes = rw (r.first, end, empty, ne_eqb l.over 0 over) refl;
+          bytes = rw (r.first, end, empty, over) refl;
         }
 
     pub fills-end : 0 < held → held < length before → length after ≡ length before → Filled (take held before) (record { start = 0; end = held + 1; over = l.over }) (set after held lf)
@@ -70,6 +70,6 @@ module _ (before after : List ℕ) (held : ℕ) (l : Left) (r : ReadBehind befor
           order = omega arith;
           within = omega (arith, m, small, same);
           bytes =
-              rw (ne_eqb l.over 0 over, ends_it (take held before) (omega (arith, held-length, some)), add-one held)
+              rw (over, ends_it (take held before) (omega (arith, held-length, some)), add-one held)
               (take-suc-set after held lf (omega (arith, small, same)) ∙ ap (λ (t : List ℕ). t ++ lf ∷ []) r.held_stay);
         }

@@ -1,84 +1,52 @@
--- Moving what is left of a line of text to the front of the input, byte by byte. Assumes nothing.
-use mathlib.Core.Path.{◌≡◌, refl, sym, ap, ◌∙◌}
-use mathlib.Core.List.{List, []}
-use Prim.Native.Nat.{ℕ, ◌+◌, ◌-◌, ◌≤◌, ◌<◌}
+-- What is left of a line of text moves to the front of the input. Assumes nothing.
+use mathlib.Core.Path.{◌≡◌, sym, ap, ◌∙◌}
+use mathlib.Core.List.{List}
+use Prim.Native.Nat.{ℕ, ◌+◌, ◌-◌, min}
 use native.Mathlib.Omega.{arith}
-use native.Mathlib.Numerals.{add-one}
-use lib.Dec.{leb, ltb}
-use lib.ListN.{length, get_or, take, drop, set, length-drop, drop_of_length-le}
-use lib.Seq.{take-suc, take-suc-set, take_all, take-take, take-add, drop_at, drop-drop, drop-set-lt, get_or-drop, length-take-le}
-use borrow.Author.Tests.{leb-true, leb-false, ltb-true, ltb-false}
-use Rattle.laws.proofs.Tests.{by_cases}
-use Rattle.blocks.specs.Left.{kept_bytes, kept_length, least_of}
+use lib.ListN.{length, take, drop, length-drop}
+use lib.Seq.{paste, take-take, length-take-le}
+use Rattle.std.proofs.lemmas.List.{drop-take, drop_min, take_min}
+use Rattle.std.proofs.lemmas.List.Edits.{length-paste, take-paste}
+use Rattle.std.specs.List.{copy_within}
+use Rattle.blocks.specs.Left.{kept_bytes}
 
--- the first i bytes are moved, and those behind start + i are as they were
-pub record Moved (input₀ input : List ℕ) (start i : ℕ) : Type 0 where
-  pub front : take i input ≡ take i (drop start input₀)
-  pub behind : drop (start + i) input ≡ drop (start + i) input₀
+module _ (input : List ℕ) (start end : ℕ) where
+  abbrev last : ℕ
+  last = min end (length input)
 
-module _ (input₀ input : List ℕ) (start i : ℕ) (n : length input ≡ length input₀) (h : start + i < length input) (m : Moved input₀ input start i) where
-  byte : get_or input (start + i) 0 ≡ get_or (drop start input₀) i 0
-  byte =
-      let here : start + i + 0 ≡ start + i = omega arith in
-      ap (λ (k : ℕ). get_or input k 0) (sym here) ∙ sym (get_or-drop (start + i) input 0 0) ∙ ap (λ (l : List ℕ). get_or l 0 0) m.behind
-      ∙ get_or-drop (start + i) input₀ 0 0 ∙ ap (λ (k : ℕ). get_or input₀ k 0) here ∙ sym (get_or-drop start input₀ i 0)
+  abbrev first : ℕ
+  first = min start last
 
-  pub moved_on : Moved input₀ (set input i (get_or input (start + i) 0)) start (i + 1)
-  moved_on =
-      let k = length-drop start input₀ in
-      let next : start + (i + 1) ≡ start + i + 1 = omega arith in
-      record {
-        front =
-            rw (add-one i, take-suc-set input i (get_or input (start + i) 0) (omega (arith, h)), take-suc (drop start input₀) i 0 (omega (arith, h, n, k)), m.front, byte) refl;
-        behind =
-            rw (next, drop-set-lt (start + i + 1) input i (get_or input (start + i) 0) (omega arith)) (
-            sym (drop-drop 1 (start + i) input) ∙ ap (λ (l : List ℕ). drop 1 l) m.behind ∙ drop-drop 1 (start + i) input₀);
-      }
+  abbrev n : ℕ
+  n = min (last - first) kept_bytes
 
-pub kept-bounds : (size : ℕ) → (kept_length size ≤ size) × (kept_length size ≤ kept_bytes)
-kept-bounds size =
-    by_cases (ltb size kept_bytes)
-    (λ y. let s = ltb-true size kept_bytes y in rw y (omega arith, omega (arith, s)))
-    (λ n. let s = ltb-false size kept_bytes n in rw n (omega (arith, s), omega arith))
+  rest : length (drop first input) ≡ length input - first
+  rest = length-drop first input
 
--- what is left of the input's first bytes, as much as is kept of it
-front-within : (input : List ℕ) (start end : ℕ) → start ≤ end → end ≤ length input
-    → take (kept_length (end - start)) (drop start input) ≡ take kept_bytes (drop start (take end input))
-front-within input start end h g =
-    let size : start + (end - start) ≡ end = omega (arith, h) in
-    let left : drop start (take end input) ≡ take (end - start) (drop start input) =
-    ap (λ (k : ℕ). drop start (take k input)) (sym size) ∙ ap (λ (l : List ℕ). drop start l) (take-add start (end - start) input)
-    ∙ drop_at (take start input) (take (end - start) (drop start input)) start (length-take-le start input (omega (arith, h, g))) in
-    let m = length-drop start input in
-    let all : length (take (end - start) (drop start input)) ≡ end - start = length-take-le (end - start) (drop start input) (omega (arith, h, g, m)) in
-    rw left (
-    by_cases (ltb (end - start) kept_bytes)
-    (λ y. let s = ltb-true (end - start) kept_bytes y in rw y (sym (take_all kept_bytes (take (end - start) (drop start input)) (omega (arith, all, s)))))
-    (λ n. let s = ltb-false (end - start) kept_bytes n in rw n (sym (take-take kept_bytes (end - start) (drop start input) s))))
+  -- the bytes from start to end, of which as many are kept
+  left-is : drop start (take end input) ≡ take (last - first) (drop first input)
+  left-is =
+      let size : length (take last input) ≡ last = length-take-le last input (omega arith) in
+      let all : first + (last - first) ≡ last = omega arith in
+      ap (drop start) (sym (take_min end input)) ∙ sym (drop_min start (take last input))
+      ∙ ap (λ (k : ℕ). drop (min start k) (take last input)) size
+      ∙ ap (λ (k : ℕ). drop first (take k input)) (sym all) ∙ drop-take first (last - first) input
 
--- the smaller of two numbers is within both
-pub least-within : (a b : ℕ) → (least_of a b ≤ a) × (least_of a b ≤ b)
-least-within a b =
-    by_cases (ltb a b)
-    (λ y. let h = ltb-true a b y in rw y (omega arith, omega (arith, h)))
-    (λ n. let h = ltb-false a b n in rw n (omega (arith, h), omega arith))
+  kept-is : take kept_bytes (drop start (take end input)) ≡ take n (drop first input)
+  kept-is =
+      let size : length (take (last - first) (drop first input)) ≡ last - first = length-take-le (last - first) (drop first input) (omega (arith, rest)) in
+      let some : min kept_bytes (last - first) ≡ n = omega arith in
+      ap (take kept_bytes) left-is ∙ sym (take_min kept_bytes (take (last - first) (drop first input)))
+      ∙ ap (λ (k : ℕ). take (min kept_bytes k) (take (last - first) (drop first input))) size
+      ∙ ap (λ (k : ℕ). take k (take (last - first) (drop first input))) some
+      ∙ take-take n (last - first) (drop first input) (omega arith)
 
-pub take_least : (end : ℕ) (l : List ℕ) → take (least_of end (length l)) l ≡ take end l
-take_least end l =
-    by_cases (ltb end (length l))
-    (λ y. rw y refl)
-    (λ n. let h = ltb-false end (length l) n in rw n (take_all (length l) l (omega arith) ∙ sym (take_all end l h)))
+  pub moved_same : length (copy_within input first (first + n) 0) ≡ length input
+  moved_same = length-paste input 0 (drop first input) (first + n - first) (omega arith) (omega (arith, rest))
 
-pub front-is : (input : List ℕ) (start end : ℕ) → take (kept_length (least_of end (length input) - start)) (drop start input) ≡ take kept_bytes (drop start (take end input))
-front-is input start end =
-    let last = least_of end (length input) in
-    let within = (least-within end (length input)).1 in
-    rw (← take_least end input) (
-    by_cases (leb start last)
-    (λ y. front-within input start last (leb-true start last y) within)
-    (λ n.
-    let h = leb-false start last n in
-    let none : last - start ≡ 0 = omega (arith, h) in
-    let m = length-take-le last input within in
-    let gone : drop start (take last input) ≡ [] = drop_of_length-le (take last input) {i = start} (omega (arith, h, m)) in
-    rw (none, gone) refl))
+  pub moved_front : take n (copy_within input first (first + n) 0) ≡ take kept_bytes (drop start (take end input))
+  moved_front =
+      let count : first + n - first ≡ n = omega arith in
+      let front : take (0 + n) (paste input 0 (drop first input) n) ≡ take n (drop first input) = take-paste input 0 (drop first input) n (omega arith) (omega (arith, rest)) in
+      let here : 0 + n ≡ n = omega arith in
+      rw (count, kept-is) (ap (λ (k : ℕ). take k (paste input 0 (drop first input) n)) (sym here) ∙ front)

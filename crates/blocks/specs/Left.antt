@@ -1,43 +1,45 @@
 -- What is left of the input in a buffer, and what a read puts behind it. Of a line of text that has begun the longest line and one byte more are kept: a longer one is refused whatever it holds.
-use Rattle.std.specs.Prelude.{ℕ, zero, suc, ◌+◌, ◌≤◌, ◌<◌, ◌≡◌, Bool, not, List, [], ◌∷◌, ◌++◌, eqb, leb, ltb, ℤ, pos, negsuc, length, take, drop, Result, Ok, Err}
+use Rattle.std.specs.Prelude.{ℕ, zero, suc, ◌+◌, ◌≤◌, ◌<◌, ◌≡◌, min, Bool, true, false, List, [], ◌∷◌, ◌++◌, length, take, drop, Option, None, Some, Result, Ok, Err}
 use Rattle.laws.specs.Choice.{when◌then◌else◌}
 use Rattle.decimal.specs.Bytes.{lf}
 use Rattle.text.specs.Read.{longest_line}
 use Rattle.blocks.specs.declared.left.Left.{Left}
+use Rattle.blocks.specs.declared.left.Standing.{Standing}
+use Rattle.blocks.specs.declared.left.Standing.TheVariants.{More, End, Failed}
 
 -- how much is kept of a line that is too long
 abbrev pub kept_bytes : ℕ
 kept_bytes = longest_line + 1
 
--- how much is kept of a line so long
-abbrev pub kept_length : ℕ → ℕ
-kept_length n = when ltb n kept_bytes then n else kept_bytes
+-- what `read` answers: how many bytes it read, 0 at the end of the input; none where it failed
+abbrev pub answer : {E : Type 0} → Result ℕ E → Option ℕ
+answer (Ok n) = Some n
+answer (Err e) = None
 
--- the smaller of two numbers
-abbrev pub least_of : ℕ → ℕ → ℕ
-least_of a b = when ltb a b then a else b
+abbrev pub standing : Option ℕ → Standing
+standing (Some zero) = End
+standing (Some (suc k)) = More
+standing None = Failed
 
--- what `read` answers, as one number: how many bytes it read; less than 0 where it failed
-abbrev pub answer : {E : Type 0} → Result ℕ E → ℤ
-answer (Ok n) = pos n
-answer (Err e) = negsuc 0
-
--- what `read` answers: how many bytes it read; 0 at the end of the input; less where it failed
-abbrev pub standing : ℤ → ℕ
-standing (pos zero) = 1
-standing (pos (suc k)) = 0
-standing (negsuc k) = 2
-
-abbrev pub count_of : ℤ → ℕ
-count_of (pos k) = k
-count_of (negsuc k) = 0
+abbrev pub count_of : Option ℕ → ℕ
+count_of (Some k) = k
+count_of None = 0
 
 abbrev pub none_left : Left
-none_left = record { start = 0; end = 0; over = 0 }
+none_left = record { start = 0; end = 0; over = More }
 
 -- no more will come
+abbrev pub is_over : Standing → Bool
+is_over More = false
+is_over End = true
+is_over Failed = true
+
 abbrev pub last_of : Left → Bool
-last_of l = not (eqb l.over 0)
+last_of l = is_over l.over
+
+-- a read has come to the end of the input
+abbrev pub EndSeen : Left → Type 0
+EndSeen l = l.over ≡ End
 
 -- the bytes that are left
 abbrev pub bytes_left : Left → List ℕ → List ℕ
@@ -45,11 +47,11 @@ bytes_left l input = drop l.start (take l.end input)
 
 -- without the first n of them
 abbrev pub past_of : Left → ℕ → Left
-past_of l n = record { start = when leb (l.start + n) l.end then l.start + n else l.end; end = l.end; over = l.over }
+past_of l n = record { start = min (l.start + n) l.end; end = l.end; over = l.over }
 
 -- the bytes that are held stay, and `read` puts as many behind them as it answers
 pub record ReadBehind (before : List ℕ) (held : ℕ) (l : Left) (after : List ℕ) : Type 0 where
-  pub got : ℤ
+  pub got : Option ℕ
   pub stands : l.over ≡ standing got
   pub first : l.start ≡ 0
   pub counted : l.end ≡ held + count_of got
@@ -63,7 +65,7 @@ at_end (b ∷ text) = lf ∷ []
 
 -- behind the bytes that are held: those that were read, as many as `read` answers; none at the end of the input, where the line is ended
 pub record Filled (held : List ℕ) (l : Left) (input : List ℕ) : Type 0 where
-  pub got : ℤ
+  pub got : Option ℕ
   pub new : List ℕ
   pub stands : l.over ≡ standing got
   pub counted : length new ≡ count_of got

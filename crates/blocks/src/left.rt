@@ -1,67 +1,50 @@
 // What is left of the input in a buffer.
 ghost use Rattle.std.specs.Prelude.{◌<◌, ◌≤◌, ◌≡◌, length, take, drop};
-ghost use Rattle.blocks.specs.Left.{kept_bytes, kept_length, standing, none_left, last_of, past_of, answer, bytes_left, ReadBehind, Filled, Refilled};
+ghost use Rattle.blocks.specs.Left.{kept_bytes, standing, none_left, last_of, past_of, answer, bytes_left, ReadBehind, Filled, Refilled};
 ghost use Rattle.blocks.specs.Known.{Drawn};
 
-use crate::number::{least, less};
 use std::io::{Read, Result};
 use text::LONGEST_LINE;
 
 // A line over the longest is refused whatever follows: so much of it stands for all of it.
 const KEPT: usize = LONGEST_LINE + 1;
 
-// The bytes of a buffer from `start` to `end`. `over` is 0 while more may come, 1 once the input has ended, and 2 once a read
-// has failed.
+// How the input stands: more may come; it has ended; or a read has failed.
+#[derive(Clone, Copy, PartialEq, Eq)]
+enum Standing {
+    More,
+    End,
+    Failed,
+}
+
+// The bytes of a buffer from `start` to `end`, and how the input stands behind them.
 #[derive(Clone, Copy)]
 pub struct Left {
     pub start: usize,
     pub end: usize,
-    over: u64,
+    over: Standing,
 }
 
-const MORE: u64 = 0;
-
-const ENDED: u64 = 1;
-
-const FAILED: u64 = 2;
-
 // How the input stands when `read` has answered this.
-fn standing_at(answered: Result<usize>) -> u64
+fn standing_at(answered: Result<usize>) -> Standing
     ensures { result ≡ standing (answer answered) }
 {
     match answered {
-        Ok(got) => {
-            if 1 <= got {
-                return MORE;
-            }
-            ENDED
-        }
-        Err(_) => FAILED,
+        Ok(0) => Standing::End,
+        Ok(_) => Standing::More,
+        Err(_) => Standing::Failed,
     }
-}
-
-// How much is kept of a line so long.
-fn kept(length: usize) -> usize
-    ensures { result ≡ kept_length length }
-{
-    if length < KEPT {
-        return length;
-    }
-    KEPT
 }
 
 // Moves what is kept of the bytes from `start` to `end` to the front, and answers how many they are.
 fn keep(input: &mut [u8], start: usize, end: usize) -> usize
     ensures { (result ≤ kept_bytes) × (length input.new ≡ length input.old) × (take result input.new ≡ take kept_bytes (drop start (take end input.old))) }
 {
-    let last = least(end, input.len());
-    let n = kept(less(last, start));
-    let mut i = 0;
-    while i < n {
-        input[i] = input[start + i];
-        i += 1;
-    }
-    i
+    let last = end.min(input.len());
+    let first = start.min(last);
+    let n = (last - first).min(KEPT);
+    input.copy_within(first..first + n, 0);
+    n
 }
 
 // Reads more behind the bytes that are held.
@@ -87,7 +70,7 @@ fn read_more<R: Read>(reader: &mut R, input: &mut [u8], held: usize) -> Left
     ensures drawn { Drawn (R.remaining reader.old) (R.remaining reader.new) (take held input.old) result input.new }
 {
     let read = read_behind(reader, &mut *input, held);
-    if read.over == MORE {
+    if !read.is_last() {
         return read;
     }
     if held == 0 {
@@ -109,7 +92,7 @@ impl Left {
         Left {
             start: 0,
             end: 0,
-            over: MORE,
+            over: Standing::More,
         }
     }
 
@@ -117,21 +100,15 @@ impl Left {
     pub fn is_last(self) -> bool
         ensures { result ≡ last_of self }
     {
-        self.over != MORE
+        self.over != Standing::More
     }
 
     // Without the first n bytes, or without all of them where they are fewer.
     pub fn past(self, n: usize) -> Left
         ensures { result ≡ past_of self n }
     {
-        let mut start = self.end;
-        if n <= self.end {
-            if self.start <= self.end - n {
-                start = self.start + n;
-            }
-        }
         Left {
-            start: start,
+            start: self.start.saturating_add(n).min(self.end),
             end: self.end,
             over: self.over,
         }

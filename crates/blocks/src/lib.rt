@@ -12,12 +12,13 @@
 #![tactic(auto)]
 
 mod buffer;
+mod ended;
 mod left;
 mod lines;
-mod number;
 mod output;
 
 pub use buffer::large_buffer;
+pub use ended::Ended;
 pub use left::Left;
 pub use lines::line_end;
 pub use output::{Taken, write_out};

@@ -1,10 +1,8 @@
 // What is printed goes to a writer.
-ghost use Rattle.std.specs.Prelude.{◌≡◌, length, take};
+ghost use Rattle.std.specs.Prelude.{◌≡◌, min, length, take};
 ghost use Rattle.std.specs.Io.KnownBytes.{Appends};
-ghost use Rattle.blocks.specs.Left.{least_of};
 ghost use Rattle.blocks.specs.Taken.{all_taken, TakenOf};
 
-use crate::number::least;
 use std::io::Write;
 
 // Of so many bytes, how many `write` has taken.
@@ -23,25 +21,20 @@ impl Taken {
     }
 }
 
-// Writes the first `end` bytes, until all are taken or a `write` takes none.
+// Writes the first `end` bytes, until all are taken or a `write` takes none. The loop is here, since `write_all` does not say how
+// many bytes were taken before it failed.
 pub fn write_out<W: Write>(writer: &mut W, out: &[u8], end: usize) -> Taken
-    ensures taken { TakenOf (least_of end (length out.now)) result }
+    ensures taken { TakenOf (min end (length out.now)) result }
     ensures written { Appends (W.contents writer.old) (W.contents writer.new) (take result.taken out.now) }
 {
-    let of = least(end, out.len());
+    let of = end.min(out.len());
     let mut done = 0;
     while done < of {
         let put = writer.write(&out[done..of]).unwrap_or(0);
         if put == 0 {
-            return Taken {
-                of: of,
-                taken: done,
-            };
+            return Taken { of, taken: done };
         }
         done += put;
     }
-    Taken {
-        of: of,
-        taken: done,
-    }
+    Taken { of, taken: done }
 }

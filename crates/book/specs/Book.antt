@@ -1,11 +1,10 @@
 -- 01, "The book of demand 3 is fed only the events and their replies." Nothing here names a line, a tally or the memory.
-use Rattle.std.specs.Prelude.{ℕ, Bool, true, false, ◌&&◌, not, List, [], ◌∷◌, eqb, ltb, ℤ, pos, length}
+use Rattle.std.specs.Prelude.{ℕ, Bool, true, false, ◌&&◌, not, List, [], ◌∷◌, eqb, ltb, ℤ, pos, length, Ok, Err}
 use Rattle.laws.specs.Choice.{when◌then◌else◌}
 use Rattle.event.specs.declared.Event.{Event}
-use Rattle.event.specs.declared.Event.TheVariants.{Sample, Run, Stop, Emergency, Recall, Cancel, ClearCode, ClearAll, ErrorReset, NoOperation, Setup, Store}
+use Rattle.event.specs.declared.Event.TheVariants.{Recall, Cancel, ClearCode, ClearAll, Store}
 use Rattle.tally.specs.Tally.{tally_limit, is_verdict}
-use Rattle.event.specs.declared.reply.Reply.{Reply}
-use Rattle.event.specs.declared.reply.Reply.TheVariants.{Refused, Done}
+use Rattle.event.specs.Reply.{Reply}
 
 -- an event and its reply
 pub record Turn : Type 0 where
@@ -48,8 +47,8 @@ has_place b = ltb (length (b.pages b.code)) tally_limit
 
 unfoldable pub entered : Book → Verdict → Book
 entered b v =
-    when has_place b then record { code = b.code; pages = turned b.pages b.code (v ∷ b.pages b.code); chance = true; targets = b.targets }
-    else record { code = b.code; pages = b.pages; chance = false; targets = b.targets }
+    when has_place b then record b { pages = turned b.pages b.code (v ∷ b.pages b.code); chance = true }
+    else record b { chance = false }
 
 -- "takes the last one, if any, off"
 abbrev pub last_off : List Verdict → List Verdict
@@ -59,31 +58,23 @@ last_off (v ∷ p) = p
 -- "Cancel takes the last one, if any, off the active page; recall makes its code active; clear all empties all pages: each ends the chance.
 -- Clear code empties its page, and ends the chance if that page is active. All else, refusals too, leaves the book as it is."
 unfoldable pub commanded : Book → Event → Book
-commanded b (Sample s) = b
-commanded b Run = b
-commanded b Stop = b
-commanded b Emergency = b
-commanded b (Recall c) = record { code = c; pages = b.pages; chance = false; targets = b.targets }
-commanded b Cancel =
-    record { code = b.code; pages = turned b.pages b.code (last_off (b.pages b.code)); chance = false; targets = b.targets }
-commanded b (ClearCode c) =
-    record { code = b.code; pages = turned b.pages c []; chance = b.chance && not (eqb c b.code); targets = b.targets }
-commanded b ClearAll = record { code = b.code; pages = λ _. []; chance = false; targets = b.targets }
-commanded b ErrorReset = b
-commanded b NoOperation = b
-commanded b (Setup s) = b
-commanded b (Store c s) = record { code = b.code; pages = b.pages; chance = b.chance; targets = aimed b.targets c s.target }
+commanded b (Recall c) = record b { code = c; chance = false }
+commanded b Cancel = record b { pages = turned b.pages b.code (last_off (b.pages b.code)); chance = false }
+commanded b (ClearCode c) = record b { pages = turned b.pages c []; chance = b.chance && not (eqb c b.code) }
+commanded b ClearAll = record b { pages = λ _. []; chance = false }
+commanded b (Store c s) = record b { targets = aimed b.targets c s.target }
+commanded b e = b
 
 -- the book after an event and its reply; "refusals too" leave it as it is
 unfoldable pub fed : Book → Event → Reply → Book
-fed b e (Refused number input) = b
-fed b e (Done d) =
+fed b e (Err r) = b
+fed b e (Ok d) =
     when is_verdict d.outcome then entered b (record { outcome = d.outcome; net = d.net; target = b.targets b.code }) else commanded b e
 
 -- "Tallied is 1 exactly when a verdict was put on a page"
 unfoldable pub tallied_by : Book → Reply → ℕ
-tallied_by b (Refused number input) = 0
-tallied_by b (Done d) = when is_verdict d.outcome && has_place b then 1 else 0
+tallied_by b (Err r) = 0
+tallied_by b (Ok d) = when is_verdict d.outcome && has_place b then 1 else 0
 
 -- the book of what has been said; the last turn stands first
 unfoldable pub book_of : List Turn → Book

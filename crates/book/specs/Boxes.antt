@@ -1,17 +1,16 @@
 -- 01, "For demand 3, over the replies (refused: detected and outcome 0)": the balance of the boxes.
-use Rattle.std.specs.Prelude.{ℕ, ◌+◌, ◌&&◌, ◌||◌, not, List, [], ◌∷◌, eqb}
+use Rattle.std.specs.Prelude.{ℕ, ◌+◌, ◌&&◌, ◌||◌, not, List, [], ◌∷◌, eqb, Ok, Err}
 use Rattle.laws.specs.Choice.{when◌then◌else◌, within, bit}
-use Rattle.event.specs.declared.reply.Reply.{Reply}
-use Rattle.event.specs.declared.reply.Reply.TheVariants.{Refused, Done}
+use Rattle.event.specs.Reply.{Reply}
 use Rattle.book.specs.Book.{Turn}
 
 abbrev pub detected_by : Reply → ℕ
-detected_by (Refused number input) = 0
-detected_by (Done d) = d.detected
+detected_by (Err r) = 0
+detected_by (Ok d) = d.detected
 
 abbrev pub outcome_of : Reply → ℕ
-outcome_of (Refused number input) = 0
-outcome_of (Done d) = d.outcome
+outcome_of (Err r) = 0
+outcome_of (Ok d) = d.outcome
 
 -- a number of each reply, added up
 unfoldable pub sum_over : (Reply → ℕ) → List Turn → ℕ

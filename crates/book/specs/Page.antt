@@ -1,6 +1,7 @@
 -- 01, "Counts are by outcome; n, S, Q, largest and smallest (0 if none) are over the nets of outcomes 1 to 5."
 -- 02, T-05: "each count is that of the standing graded verdicts in its class".
 use Rattle.std.specs.Prelude.{ℕ, ◌+◌, Bool, ◌&&◌, List, [], ◌∷◌, eqb, ℤ, pos, length}
+use Rattle.std.specs.Int.{from_bool}
 use Rattle.std.specs.Int.Signed.{lt_z}
 use Rattle.laws.specs.Choice.{when◌then◌else◌, within}
 use Rattle.lists.specs.Sums.{sum_of, squares_of}
@@ -14,7 +15,7 @@ use Rattle.book.specs.Book.{Verdict}
 -- how many verdicts have this outcome
 unfoldable pub count_of : ℕ → List Verdict → ℕ
 count_of o [] = 0
-count_of o (v ∷ p) = count_of o p + (when eqb v.outcome o then 1 else 0)
+count_of o (v ∷ p) = count_of o p + from_bool (eqb v.outcome o)
 
 -- the nets of outcomes 1 to 5
 unfoldable pub nets_of : List Verdict → List ℤ

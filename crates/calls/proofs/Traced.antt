@@ -8,15 +8,15 @@
 use mathlib.Core.Path.{◌≡◌, refl, sym, ap, subst, ◌∙◌}
 use mathlib.Core.Bool.{Bool, true, false}
 use mathlib.Core.List.{List, [], ◌++◌, append_assoc, append-nil}
-use Prim.Native.Nat.{ℕ, ◌+◌, ◌-◌, ◌≤◌, ◌<◌}
+use Prim.Native.Nat.{ℕ, ◌+◌, ◌-◌, ◌≤◌, ◌<◌, min}
 use native.Mathlib.Omega.{arith}
 use lib.Dec.{ltb}
 use lib.ListN.{length, take, drop, length-drop}
 use lib.Seq.{take-add, take-take, drop_at, drop-drop, length-take-le}
-use borrow.Author.Tests.{le-leb, ltb-true, ltb-false, eqb-true, eqb-false}
+use borrow.Author.Tests.{ltb-true, ltb-false, eqb-true, eqb-false}
 use Rattle.laws.proofs.Tests.{by_cases, never}
 use Rattle.blocks.specs.Lines.{line_length, NoLf, end_from}
-use Rattle.blocks.specs.Left.{kept_bytes, least_of, last_of, bytes_left, past_of, at_end, Filled, Refilled}
+use Rattle.blocks.specs.Left.{kept_bytes, last_of, EndSeen, bytes_left, past_of, at_end, Filled, Refilled}
 use Rattle.blocks.specs.declared.left.Left.{Left}
 use Rattle.blocks.specs.declared.output.Taken.{Taken}
 use Rattle.blocks.specs.Taken.{all_taken, TakenOf}
@@ -27,15 +27,15 @@ use Rattle.std.specs.Prelude.{Option}
 use Rattle.std.specs.Io.KnownBytes.{Consumes, Appends, IsAtEnd}
 use Rattle.calls.specs.Service.{Service}
 use Rattle.calls.specs.Traces.{entries_of, Printing, ended, line, Program, Traced, Whole, Begun, EndsSo, Finished}
-use Rattle.calls.specs.declared.Ended.{Ended}
-use Rattle.calls.specs.declared.Ended.TheVariants.{Input, Output, Turns}
+use Rattle.blocks.specs.declared.ended.Ended.{Ended}
+use Rattle.blocks.specs.declared.ended.Ended.TheVariants.{Input, Output, Turns}
 use Rattle.calls.proofs.Lines.{first_entry, no_entry, kept-entries, ended-entries, ended-closed}
 
 -- ---- what `write` took of a text at the front of the output
 
-module _ (size : ℕ) (out : List ℕ) (fits : size ≤ length out) (t : Taken) (g : TakenOf (least_of size (length out)) t) where
+module _ (size : ℕ) (out : List ℕ) (fits : size ≤ length out) (t : Taken) (g : TakenOf (min size (length out)) t) where
   given : t.of ≡ size
-  given = g.whole ∙ by_cases (ltb size (length out)) (λ y. rw y refl) (λ n. let h = ltb-false size (length out) n in rw n (omega (arith, fits, h)))
+  given = let e = g.whole in omega (arith, e, fits)
 
   pub took_all : all_taken t ≡ true → t.taken ≡ size
   took_all h = eqb-true t.taken t.of h ∙ given
@@ -202,13 +202,12 @@ module _ (prog : Service) (cut : (t : List ℕ) → prog.reads (take kept_bytes 
       past-it h =
           let n : end - left.start + 1 ≡ line_length bytes + 1 = omega (arith, ends) in
           let c = complete h in
-          rw (n, le-leb (left.start + (line_length bytes + 1)) left.end (omega (arith, c, size_is, order)))
+          let on : min (left.start + (line_length bytes + 1)) left.end ≡ left.start + (line_length bytes + 1) = omega (arith, c, size_is, order) in
+          rw (n, on)
           (sym (drop-drop (line_length bytes + 1) left.start (take left.end input)))
 
       past_order : end < left.end → (past_of left (end - left.start + 1)).start ≤ left.end
-      past_order h =
-          let k : left.start + (end - left.start + 1) ≤ left.end = omega (arith, h, ends) in
-          rw (le-leb (left.start + (end - left.start + 1)) left.end k) k
+      past_order h = omega (arith, h, ends)
 
       module _ (t : Traced prog before now s bytes (last_of left)) (h : end < left.end) (l : List ℕ) (is : l ≡ take (end - left.start) (drop left.start input))
           (text : List ℕ) (says : prog.Says s (prog.reads l) text) where
@@ -237,7 +236,7 @@ module _ (prog : Service) (cut : (t : List ℕ) → prog.reads (take kept_bytes 
         end-due over text closes holds n a = traced-end-due before now s bytes (last_of left) t over (none-complete h) text closes holds n a
 
         -- how the program ends, by what the last step answers
-        pub turn-finished : last_of left ≡ true → (left.over ≡ 1 → IsAtEnd now.left) → (holds : Option (List ℕ)) (r : Ended) → Finished prog s left now.holds holds r
+        pub turn-finished : last_of left ≡ true → (EndSeen left → IsAtEnd now.left) → (holds : Option (List ℕ)) (r : Ended) → Finished prog s left now.holds holds r
             → EndsSo prog before (streams now.left holds) r
         turn-finished over done holds (Input l) f =
             (ap last_of f.0 ∙ over, λ e. done (sym (ap (λ (x : Left). x.over) f.0) ∙ e), turn-ends over f.1.0 f.1.1 holds f.1.2)

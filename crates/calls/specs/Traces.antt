@@ -3,13 +3,17 @@ use Rattle.std.specs.Prelude.{ℕ, ◌-◌, ◌<◌, ◌^◌, ◌≡◌, Bool, t
 use Rattle.std.specs.Io.KnownBytes.{Appends, IsAtEnd}
 use Rattle.controller.specs.Input.{lines_of}
 use Rattle.blocks.specs.Lines.{NoLf}
-use Rattle.blocks.specs.Left.{last_of}
+use Rattle.blocks.specs.Left.{last_of, EndSeen}
 use Rattle.blocks.specs.Known.{Streams, Passed}
 use Rattle.blocks.specs.declared.left.Left.{Left}
 use Rattle.blocks.specs.declared.output.Taken.{Taken}
 use Rattle.calls.specs.Service.{Service}
-use Rattle.calls.specs.declared.Ended.{Ended}
-use Rattle.calls.specs.declared.Ended.TheVariants.{Input, Output, Turns}
+use Rattle.blocks.specs.declared.ended.Ended.{Ended}
+use Rattle.blocks.specs.declared.ended.Ended.TheVariants.{Input, Output, Turns}
+
+-- what a call prints has room in so many bytes, whichever program's it is
+abbrev pub output_room : ℕ
+output_room = 262144
 
 -- what the lines of an input say
 abbrev pub entries_of : (p : Service) → List ℕ → List p.Entry
@@ -57,7 +61,7 @@ pub record CutShort (t : Taken) : Type 0 where
 
 -- no more input will come, and all is printed; or `write` did not take all; or all turns were made. Where the input has ended, the reader has no more
 abbrev pub EndsSo : Service → Streams → Streams → Ended → Type 0
-EndsSo p before now (Input left) = (last_of left ≡ true) × (left.over ≡ 1 → IsAtEnd now.left) × Whole p before now
+EndsSo p before now (Input left) = (last_of left ≡ true) × (EndSeen left → IsAtEnd now.left) × Whole p before now
 EndsSo p before now (Output taken) = (c : CutShort taken) × Begun p before now c.due taken.taken
 EndsSo p before now (Turns turns) = (turns ≡ 2 ^ 64 - 1) × Begun p before now [] 0
 

@@ -12,6 +12,7 @@ use Rattle.laws.proofs.Tests.{by_cases}
 use Rattle.decimal.specs.Bytes.{lf}
 use Rattle.line.specs.State.{State}
 use Rattle.text.specs.Read.{read_line, longest_line}
+use Rattle.std.specs.Prelude.{Option}
 use Rattle.text.specs.declared.Read.{Read}
 use Rattle.controller.specs.Serve.{answer_to, state_after}
 use Rattle.controller.specs.Input.{last_line, lines_from, lines_of, answers_to, printed}
@@ -48,7 +49,7 @@ front_no_lf zero t h = no_more
 front_no_lf (suc k) [] h = h
 front_no_lf (suc k) (b ∷ t) h = let r = behind-lf b t h in before-lf b (take k t) r.0 ∙ ap suc (front_no_lf k t r.1)
 
--- ---- what is kept of it stands for all of it: a line over the longest reads as other, whatever it holds
+-- ---- what is kept of it stands for all of it: a line over the longest says nothing, whatever it holds
 short : (t : List ℕ) → leb (length t) kept_bytes ≡ true → take kept_bytes t ≡ t
 short t y = take_all kept_bytes t (leb-true (length t) kept_bytes y)
 
@@ -76,7 +77,7 @@ cut-more t b =
 
 -- a line that says the same prints the same
 same-said : (s : State) (l k : List ℕ) (ls : List (List ℕ)) → read_line l ≡ read_line k → answers_to s (l ∷ ls) ≡ answers_to s (k ∷ ls)
-same-said s l k ls e = answers_one s l ls ∙ ap (λ (r : Read). answer_to s r ++ answers_to (state_after s r) ls) e ∙ sym (answers_one s k ls)
+same-said s l k ls e = answers_one s l ls ∙ ap (λ (r : Option Read). answer_to s r ++ answers_to (state_after s r) ls) e ∙ sym (answers_one s k ls)
 
 cut-last : (s : State) (t : List ℕ) → answers_to s (last_line (take kept_bytes t)) ≡ answers_to s (last_line t)
 cut-last s [] = refl

@@ -8,7 +8,7 @@ use mathlib.Core.Path.{◌≡◌, refl, sym, ap, subst, ◌∙◌}
 use mathlib.Core.Logic.{◌≢◌}
 use mathlib.Core.Bool.{Bool, true, false, ◌&&◌, not}
 use mathlib.Core.List.{List, [], ◌∷◌, ◌++◌, append_assoc, append-nil}
-use Prim.Native.Nat.{ℕ, ◌+◌, ◌-◌, ◌≤◌, ◌<◌}
+use Prim.Native.Nat.{ℕ, ◌+◌, ◌-◌, ◌≤◌, ◌<◌, min}
 use native.Mathlib.Omega.{arith}
 use lib.Dec.{eqb, ltb}
 use lib.ListN.{length, take, drop, length-drop}
@@ -17,7 +17,7 @@ use borrow.Author.Tests.{le-leb, ltb-true, ltb-false, eqb-true, eqb-false}
 use Rattle.laws.proofs.Tests.{by_cases, never}
 use Rattle.line.specs.State.{State, fresh_state}
 use Rattle.blocks.specs.Lines.{NoLf}
-use Rattle.blocks.specs.Left.{kept_bytes, least_of, last_of, bytes_left, past_of, at_end, Filled}
+use Rattle.blocks.specs.Left.{kept_bytes, last_of, EndSeen, bytes_left, past_of, at_end, Filled}
 use Rattle.blocks.specs.declared.left.Left.{Left}
 use Rattle.blocks.specs.declared.output.Taken.{Taken}
 use Rattle.blocks.specs.Taken.{TakenOf}
@@ -75,8 +75,8 @@ module _ (before now : Streams) (s : State) (left : List ℕ) (last : Bool) (tur
   over_read : program t.input ≡ written_in t.written ++ printed s (left ++ [])
   over_read = ap program (sym (append-nil t.input)) ∙ t.prints [] (λ _. refl)
 
-  pub traced_begun : Begun before now turns
-  traced_begun = record { input = t.input; written = t.written; passed = t.passed; rest = printed s (left ++ []); turned = t.turned; begun = over_read }
+  pub traced_begun : {all : ℕ} → turns ≡ all → Begun before now all
+  traced_begun e = record { input = t.input; written = t.written; passed = t.passed; rest = printed s (left ++ []); turned = t.turned ∙ e; begun = over_read }
 
   pub traced_cut : (p : State) (rest text : List ℕ) → Says s left p rest text → (taken : Taken) → length text ≡ taken.of → taken.taken < taken.of
       → (holds : Option (List ℕ)) → Appends now.holds holds (take taken.taken text) → CutShort before (streams now.left holds) taken
@@ -168,16 +168,12 @@ place-within l start end k h g p =
 
 -- past them
 past_is : (l : Left) (input : List ℕ) (k : ℕ) → l.start + k ≤ l.end → bytes_left (past_of l k) input ≡ drop k (bytes_left l input)
-past_is l input k h = rw (le-leb (l.start + k) l.end h) (sym (drop-drop k l.start (take l.end input)))
+past_is l input k h =
+    let on : min (l.start + k) l.end ≡ l.start + k = omega (arith, h) in
+    rw on (sym (drop-drop k l.start (take l.end input)))
 
 past_order : (l : Left) (k : ℕ) → l.start + k ≤ l.end → (past_of l k).start ≤ (past_of l k).end
-past_order l k h = rw (le-leb (l.start + k) l.end h) h
-
-least-is : (a b : ℕ) → a ≤ b → least_of a b ≡ a
-least-is a b h =
-    by_cases (ltb a b)
-    (λ y. rw y refl)
-    (λ n. let g = ltb-false a b n in rw n (omega (arith, h, g)))
+past_order l k h = omega (arith, h)
 
 below : (a b : ℕ) → a ≤ b → a ≢ b → a < b
 below a b h n =
@@ -199,15 +195,14 @@ module _ (before now : Streams) (input out : List ℕ) (left : Left) (s p : Stat
   stays = place-within input left.start left.end k order within a.place
 
   -- `write` was given what was due
-  given : (taken : Taken) → TakenOf (least_of at (length out)) taken → (taken.of ≡ at) × (taken.taken ≤ taken.of)
+  given : (taken : Taken) → TakenOf (min at (length out)) taken → (taken.of ≡ at) × (taken.taken ≤ taken.of)
   given taken g =
-      let w = a.fits in
-      let least : least_of at (length out) ≡ at = least-is at (length out) w in
       let e = g.whole in
       let h = g.within in
-      (e ∙ least, omega (arith, e, h))
+      let w = a.fits in
+      (omega (arith, e, w), omega (arith, e, h))
 
-  pub turn-cut : (taken : Taken) → TakenOf (least_of at (length out)) taken → eqb taken.taken taken.of ≡ false
+  pub turn-cut : (taken : Taken) → TakenOf (min at (length out)) taken → eqb taken.taken taken.of ≡ false
       → (holds : Option (List ℕ)) → Appends now.holds holds (take taken.taken out) → CutShort before (streams now.left holds) taken
   turn-cut taken g n holds w =
       let h = given taken g in
@@ -220,7 +215,7 @@ module _ (before now : Streams) (input out : List ℕ) (left : Left) (s p : Stat
       (subst (Appends now.holds holds) (sym part) w)
 
   -- all of it was taken
-  module _ (taken : Taken) (g : TakenOf (least_of at (length out)) taken) (all : eqb taken.taken taken.of ≡ true)
+  module _ (taken : Taken) (g : TakenOf (min at (length out)) taken) (all : eqb taken.taken taken.of ≡ true)
       (holds : Option (List ℕ)) (w : Appends now.holds holds (take taken.taken out)) where
     took : taken.taken ≡ at
     took = eqb-true taken.taken taken.of all ∙ (given taken g).0
@@ -239,9 +234,9 @@ module _ (before now : Streams) (input out : List ℕ) (left : Left) (s p : Stat
 
     pub turn-goes : (full : Bool) → full ≡ no_room (length out) at → not full && last_of left ≡ false → kept_bytes < length input
         → (l : Left) (after : List ℕ) → GoesOn full (past_of left k) input l after
-        → (reads : Option (List ℕ)) → Gives full (past_of left k) input now.left reads l after → (left.over ≡ 1 → IsAtEnd now.left)
+        → (reads : Option (List ℕ)) → Gives full (past_of left k) input now.left reads l after → (EndSeen left → IsAtEnd now.left)
         → (length after ≡ length input) × (l.start ≤ l.end) × (l.end ≤ length input) × Traced before (streams reads holds) p (bytes_left l after) (last_of l) (turns + 1)
-        × (l.over ≡ 1 → IsAtEnd reads)
+        × (EndSeen l → IsAtEnd reads)
     turn-goes true e n big l after g reads d z =
         let on = past_is left input k stays in
         rw (g.0, g.1, d) (refl, past_order left k stays, within, subst (λ (x : List ℕ). Traced before (streams now.left holds) p x (last_of left) (turns + 1)) (sym on) turned, z)

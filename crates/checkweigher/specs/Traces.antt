@@ -3,13 +3,13 @@ use Rattle.std.specs.Prelude.{ℕ, ◌-◌, ◌<◌, ◌^◌, ◌≡◌, Bool, t
 use Rattle.std.specs.Io.KnownBytes.{IsAtEnd}
 use Rattle.line.specs.State.{State}
 use Rattle.blocks.specs.Lines.{NoLf}
-use Rattle.blocks.specs.Left.{kept_bytes, last_of, bytes_left, Refilled}
+use Rattle.blocks.specs.Left.{kept_bytes, last_of, bytes_left, EndSeen, Refilled}
 use Rattle.blocks.specs.Known.{Streams, Drawn, Passed}
+use Rattle.blocks.specs.declared.ended.Ended.{Ended}
+use Rattle.blocks.specs.declared.ended.Ended.TheVariants.{Input, Output, Turns}
 use Rattle.blocks.specs.declared.left.Left.{Left}
 use Rattle.blocks.specs.declared.output.Taken.{Taken}
 use Rattle.controller.specs.Input.{printed, program}
-use Rattle.checkweigher.specs.declared.input.Ended.{Ended}
-use Rattle.checkweigher.specs.declared.input.Ended.TheVariants.{Input, Output, Turns}
 
 -- more is read where no complete line of text is left
 abbrev pub GoesOn : Bool → Left → List ℕ → Left → List ℕ → Type 0
@@ -64,6 +64,6 @@ pub record CutShort (before now : Streams) (t : Taken) : Type 0 where
 
 -- no more input will come, and all is printed; or `write` did not take all; or all turns were made. Where the input has ended, the reader has no more
 abbrev pub EndsSo : Streams → Streams → Ended → Type 0
-EndsSo before now (Input left) = (last_of left ≡ true) × (left.over ≡ 1 → IsAtEnd now.left) × Whole before now
+EndsSo before now (Input left) = (last_of left ≡ true) × (EndSeen left → IsAtEnd now.left) × Whole before now
 EndsSo before now (Output taken) = CutShort before now taken
 EndsSo before now (Turns turns) = (turns ≡ 2 ^ 64 - 1) × Begun before now turns

@@ -26,11 +26,10 @@ use Rattle.line.specs.Sample.{step1, running_tick, sampled, tick_of}
 use Rattle.line.specs.Command.{ran, stopping, alarmed}
 use Rattle.line.specs.Tallying.{Out, recorded, code_cleared}
 use Rattle.line.specs.State.{State, active_of}
-use Rattle.line.specs.Refusal.{refusal_of}
 use Rattle.line.specs.Step.{accepted, refused, step_of, out_on}
 use Rattle.line.specs.declared.line.Line.{Line}
 use Rattle.line.specs.declared.effect.Effect.{Effect}
-use Rattle.line.proofs.Accepted.{accepted_tells, sound_tells}
+use Rattle.line.proofs.Accepted.{sound_tells, step_ind}
 use Rattle.line.proofs.Facts.{fit_tells}
 use Rattle.line.proofs.Bench.{Arms, tick_arms}
 use Rattle.book.specs.Boxes.{detected_by, outcome_of}
@@ -118,14 +117,12 @@ accepted_arming l a ts (Setup s) h = quiet_arming l a (Setup s) _ refl refl refl
 accepted_arming l a ts (Store c s) h = quiet_arming l a (Store c s) _ refl refl refl
 
 step_arming : (s : State) (e : Event) → Arming s.line (active_of s) e (out_on s e)
-unfolding step_of
 step_arming s e =
     let l = s.line in
     let a = active_of s in
-    let n = refusal_of l (length s.settings) a s.tallies e in
-    if_ind (Arming l a e) (eqb n 0) _ _
-    (λ z. accepted_arming l a s.tallies e (accepted_tells l (length s.settings) a s.tallies e (eqb-true n 0 z)).ranged)
-    (λ z. quiet_arming l a e (refused l s.tallies n) refl refl refl)
+    step_ind (Arming l a e) l (length s.settings) a s.tallies e
+    (λ y. accepted_arming l a s.tallies e y.ranged)
+    (λ r _. quiet_arming l a e (refused l s.tallies r) refl refl refl)
 
 -- ---- no two-on in mode 4
 
@@ -134,17 +131,16 @@ in_mode m h n = by_cases (within 1 2 m) (λ y. y) (λ z. never (rw (z, n) at h))
 
 -- a reply with a verdict was accepted, so its line was fit
 pub two-on-mode : (s : State) (e : Event) → outcome_of (out_on s e).reply ≡ 7 → within 1 2 s.line.setup.mode ≡ true
-unfolding step_of
-two-on-mode s e h =
+two-on-mode s e =
     let l = s.line in
     let a = active_of s in
-    let n = refusal_of l (length s.settings) a s.tallies e in
-    by_cases (eqb n 0)
-    (λ z. let told = accepted_tells l (length s.settings) a s.tallies e (eqb-true n 0 z) in
-    let fit = fit_tells l (sound_tells l (length s.settings) a s.tallies e told.sound).line in
+    step_ind (λ (o : Out). outcome_of o.reply ≡ 7 → within 1 2 l.setup.mode ≡ true) l (length s.settings) a s.tallies e
+    (λ y h. let fit = fit_tells l (sound_tells l (length s.settings) a s.tallies e y.sound).line in
     in_mode l.setup.mode (timers l.setup fit.setup).mode
-    (by_cases (is_bench l.setup) (λ b. never (sym ((step_arming s e).alone b) ∙ eq-eqb (outcome_of (out_on s e).reply) 7 h)) (λ b. b)))
-    (λ z. absurd (omega (arith, rw z at h)))
+    (by_cases (is_bench l.setup)
+    (λ b. never (sym ((accepted_arming l a s.tallies e y.ranged).alone b) ∙ eq-eqb (outcome_of (accepted l a s.tallies e).reply) 7 h))
+    (λ b. b)))
+    (λ _ _ h. absurd (omega (arith, h)))
 
 -- ---- every list
 

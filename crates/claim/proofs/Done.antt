@@ -3,6 +3,7 @@ use mathlib.Core.Path.{◌≡◌, refl}
 use mathlib.Core.Bool.{Bool, true, false}
 use mathlib.Core.List.{List}
 use lib.IntN.{ℤ}
+use Rattle.std.specs.Prelude.{Ok, Err}
 use Rattle.laws.proofs.Tests.{if_ind}
 use Rattle.settings.specs.declared.Settings.{Settings}
 use Rattle.event.specs.declared.Event.{Event}
@@ -14,12 +15,11 @@ use Rattle.line.specs.Tallying.{Out, untallied, noted, recorded}
 use Rattle.line.specs.Step.{accepted}
 use Rattle.line.specs.declared.line.Line.{Line}
 use Rattle.line.specs.declared.effect.Effect.{Effect}
-use Rattle.event.specs.declared.reply.Reply.{Reply}
-use Rattle.event.specs.declared.reply.Reply.TheVariants.{Refused, Done}
+use Rattle.event.specs.Reply.{Reply}
 
 abbrev pub is_done : Reply → Bool
-is_done (Refused number input) = false
-is_done (Done d) = true
+is_done (Err r) = false
+is_done (Ok d) = true
 
 abbrev NoRefusal : Out → Type 0
 NoRefusal o = is_done o.reply ≡ true

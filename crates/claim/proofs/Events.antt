@@ -15,7 +15,7 @@ use Rattle.event.specs.declared.Event.{Event}
 use Rattle.event.specs.declared.Event.TheVariants.{Sample, Run, Stop, Emergency, Recall, Cancel, ClearCode, ClearAll, ErrorReset, NoOperation, Setup, Store}
 use Rattle.event.specs.declared.Setup as setup
 use Rattle.event.proofs.Facts.{in_range}
-use Rattle.sheet.proofs.Facts.{target-weight}
+use Rattle.sheet.proofs.Facts.{target_weight}
 use Rattle.sorters.specs.Sorters.{any_sorting}
 use Rattle.tally.specs.Tally.{is_verdict}
 use Rattle.part.specs.Part.{empty_part, part_fit}
@@ -31,7 +31,7 @@ use Rattle.line.specs.Effect.{plain, halting, replied}
 use Rattle.line.specs.Sample.{sampled}
 use Rattle.line.specs.Command.{ran, stopping, alarmed}
 use Rattle.refusal.proofs.Status.{setup-stopped}
-use Rattle.refusal.specs.Rows.{reads_record, status_refusal, nothing_to_cancel}
+use Rattle.refusal.specs.Rows.{reads_record, nothing_to_cancel}
 use Rattle.undo.specs.Undo.{nothing, no_chance, kept_part, undo_fit, put_back}
 use Rattle.line.specs.Tallying.{untallied, cancelled, recalled, code_cleared, cleared_one, cleared_all}
 use Rattle.line.specs.Step.{storing, accepted}
@@ -225,11 +225,11 @@ store_goes l ts f a c s g =
 
 pub accepted_goes : (l : Line) (a : Settings) (ts : List ℤ) (f : Pages) (t : ℕ → ℤ) (e : Event) (count : ℕ) → Given l ts f → t l.code ≡ a.target
     → Accepted l count a ts e → Goes l f t e (accepted l a ts e)
-unfolding accepted book.commanded event_ranged event_agrees reads_record status_refusal nothing_to_cancel ran alarmed
+unfolding accepted book.commanded event_ranged event_agrees reads_record nothing_to_cancel ran alarmed
 accepted_goes l a ts f t (Sample s) count g at h =
     let m = sound_tells l count a ts (Sample s) h.sound in
     sample-sheets l ts f t (Sample s) (sampled l a s) a.target (sample_goes l a s g.fit m.active (in_range s h.ranged)) g.sheets g.back (λ b. refl)
-    (target-weight a m.active) at
+    (target_weight a m.active) at
 accepted_goes l a ts f t Run count g at h = quiet l ts f t Run (ran l) (run_goes l g.fit) g.sheets g.back refl (λ b. refl)
 accepted_goes l a ts f t Stop count g at h = quiet l ts f t Stop (stopping l) (stop_goes l g.fit) g.sheets g.back (stop_quiet l) (λ b. refl)
 accepted_goes l a ts f t Emergency count g at h = quiet l ts f t Emergency (alarmed l) (emergency_goes l g.fit) g.sheets g.back (halting-quiet l emergency) (λ b. refl)
@@ -242,5 +242,5 @@ accepted_goes l a ts f t ErrorReset count g at h =
 accepted_goes l a ts f t NoOperation count g at h = command_goes l l ts f f t NoOperation refl g.fit g.sheets g.back refl
 accepted_goes l a ts f t (Setup s) count g at h =
     command_goes l (with_setup l s) ts f f t (Setup s) refl
-    (with_setup_lem l s g.fit (and_intro h.ranged h.agrees) (setup-stopped l.status s (status-known l g.fit.status) h.status)) g.sheets g.back refl
+    (with_setup_lem l s g.fit (and_intro h.ranged h.agrees) (setup-stopped l.status s (status-known l g.fit.status) h.running h.emergency h.paused)) g.sheets g.back refl
 accepted_goes l a ts f t (Store c s) count g at h = store_goes l ts f t c s g

@@ -29,7 +29,7 @@ use Rattle.line.specs.Fit.{status_fit}
 use Rattle.event.specs.Sample.{last_fit}
 use Rattle.item.specs.Item.{in_hand, item_fit}
 use Rattle.undo.specs.Undo.{undo_fit, no_chance}
-use Rattle.refusal.specs.Rows.{lengths_wrong, reads_record, reads_tally, status_refusal, run_unsafe, run_occupied, nothing_to_cancel}
+use Rattle.refusal.specs.Rows.{lengths_wrong, reads_record, reads_tally, refused_running, refused_in_emergency, refused_paused, run_unsafe, run_occupied, nothing_to_cancel}
 use Rattle.line.specs.Refusal.{memory_sound, faults_of, refusal_of}
 use Rattle.line.specs.Tallying.{Out, untallied, noted, recorded}
 use Rattle.line.specs.State.{active_of}
@@ -39,18 +39,19 @@ use Rattle.line.specs.Step.{accepted, refused, step_of, out_on}
 use Rattle.undo.specs.declared.Undo.{Undo}
 use Rattle.line.specs.declared.line.Line.{Line}
 use Rattle.line.specs.declared.effect.Effect.{Effect}
-use Rattle.event.specs.declared.reply.Reply.{Reply}
-use Rattle.event.specs.declared.reply.Reply.TheVariants.{Refused, Done}
-use Rattle.refusal.specs.Table.{memory_no, nothing_no}
+use Rattle.event.specs.Reply.{Reply}
+use Rattle.refusal.specs.declared.Refusal.{Refusal}
+use Rattle.refusal.specs.declared.Refusal.TheVariants.{Nothing}
+use Rattle.refusal.specs.Table.{memory_no, nothing_no, number_in}
 use Rattle.refusal.proofs.Lengths.{right_lengths}
 use Rattle.refusal.proofs.Numbers.{not_eight}
 use Rattle.line.proofs.Facts.{FitLine, tells_fit}
-use Rattle.line.proofs.Accepted.{accepted_tells}
+use Rattle.line.proofs.Accepted.{step_ind}
 use Rattle.book.specs.Book as book
 use Rattle.book.specs.Book.{Verdict, Pages, Turn, aimed, tallied_by, book_of}
 use Rattle.book.specs.Page.{nets_of, tally_of_page, part_of_page}
 use Rattle.book.proofs.Pages.{page_fit}
-use Rattle.line.specs.declared.storing.Storing.TheVariants.{Nothing}
+use Rattle.std.specs.Prelude.{Some, None, Ok, Err}
 use Rattle.claim.specs.Run.{World, fresh_world, answer, after, run_from, run}
 use Rattle.book.specs.Boxes.{detected_by, outcome_of, sum_over, detected_in, judged_in, outcomes_in, in_hand_after}
 use Rattle.claim.specs.Claim.{refusal_in, Stands, Claim}
@@ -65,8 +66,8 @@ use Rattle.tallies.specs.Memory.{fit_at, part_at}
 use Rattle.tallies.proofs.Parts.{lies-there, held-fit}
 use Rattle.spread.specs.Figures.{report_fit}
 use Rattle.sheet.specs.Sheet.{sheet_of}
-use Rattle.sheet.specs.Report.{printed, report_on}
-use Rattle.sheet.proofs.Lists.{apart-holds}
+use Rattle.sheet.specs.Report.{report_on}
+use Rattle.sheet.proofs.Lists.{apart_holds}
 use Rattle.sheet.proofs.Printed.{prints}
 use Rattle.claim.proofs.Done.{is_done, accepted-done}
 use Rattle.claim.proofs.Sheets.{chance_of, beside, aims_of, Page, Goes, sheet_part, zero_sheets, back-nothing}
@@ -93,9 +94,9 @@ record_stored ss g c s r low ok =
           (λ n. rw (n, get_or-set_other ss c k s blank (eqb-false k c n)) (r.targets k h));
     }
 
-none-recorded : (x : Effect) (target : ℤ) (ts : List ℤ) → (recorded x target ts).storing ≡ Nothing
+none-recorded : (x : Effect) (target : ℤ) (ts : List ℤ) → (recorded x target ts).storing ≡ None
 unfolding recorded noted
-none-recorded x target ts = if_ind (λ (o : Out). o.storing ≡ Nothing) (is_verdict x.outcome) (noted x target ts) (untallied x ts) (λ _. refl) (λ _. refl)
+none-recorded x target ts = if_ind (λ (o : Out). o.storing ≡ None) (is_verdict x.outcome) (noted x target ts) (untallied x ts) (λ _. refl) (λ _. refl)
 
 stored-fit : (l : Line) (a : Settings) (ts : List ℤ) (ss : List Settings) (g : ℕ → ℤ) (e : Event) → Records ss g → event_ranged e ≡ true → event_agrees e ≡ true
     → Records (stored ss (accepted l a ts e).storing) (aims_of g (accepted l a ts e).storing)
@@ -127,9 +128,9 @@ pub record Holds (w : World) : Type 0 where
       ≡ judged_in w.history + 2 * outcomes_in 7 w.history + outcomes_in 9 w.history + outcomes_in 10 w.history + in_hand_after w.history
   pub item : bit (in_hand w.state.line.item) ≡ in_hand_after w.history
 
-refused_goes : (l : Line) (ts : List ℤ) (f : Pages) (t : ℕ → ℤ) (e : Event) (n : ℕ) → Given l ts f → Goes l f t e (refused l ts n)
+refused_goes : (l : Line) (ts : List ℤ) (f : Pages) (t : ℕ → ℤ) (e : Event) (r : Refusal) → Given l ts f → Goes l f t e (refused l ts r)
 unfolding book.fed tallied_by
-refused_goes l ts f t e n g =
+refused_goes l ts f t e r g =
     record {
       pages = f;
       book = refl;
@@ -141,29 +142,24 @@ refused_goes l ts f t e n g =
     }
 
 pub answer_goes : (w : World) (e : Event) (h : Holds w) → Goes w.state.line h.pages h.targets e (out_on w.state e)
-unfolding step_of
 answer_goes w e h =
     let l = w.state.line in
     let ts = w.state.tallies in
     let ss = w.state.settings in
     let a = active_of w.state in
-    let n = refusal_of l (length ss) a ts e in
-    if_ind (Goes l h.pages h.targets e) (eqb n 0) _ _
-    (λ z. accepted_goes l a ts h.pages h.targets e (length ss) h.given (h.records.targets l.code (leb-true l.code 99 h.given.fit.code))
-    (accepted_tells l (length ss) a ts e (eqb-true n 0 z)))
-    (λ _. refused_goes l ts h.pages h.targets e n h.given)
+    step_ind (Goes l h.pages h.targets e) l (length ss) a ts e
+    (λ y. accepted_goes l a ts h.pages h.targets e (length ss) h.given (h.records.targets l.code (leb-true l.code 99 h.given.fit.code)) y)
+    (λ r _. refused_goes l ts h.pages h.targets e r h.given)
 
 records-after : (w : World) (e : Event) (h : Holds w) → Records (answer w e).state.settings (aims_of h.targets (out_on w.state e).storing)
-unfolding step_of
 records-after w e h =
     let l = w.state.line in
     let ts = w.state.tallies in
     let ss = w.state.settings in
     let a = active_of w.state in
-    let n = refusal_of l (length ss) a ts e in
-    if_ind (λ (o : Out). Records (stored ss o.storing) (aims_of h.targets o.storing)) (eqb n 0) (accepted l a ts e) (refused l ts n)
-    (λ z. let y = accepted_tells l (length ss) a ts e (eqb-true n 0 z) in stored-fit l a ts ss h.targets e h.records y.ranged y.agrees)
-    (λ _. h.records)
+    step_ind (λ (o : Out). Records (stored ss o.storing) (aims_of h.targets o.storing)) l (length ss) a ts e
+    (λ y. stored-fit l a ts ss h.targets e h.records y.ranged y.agrees)
+    (λ _ _. h.records)
 
 -- the boxes, with one turn more
 in_hand-more : (t : Turn) (h : List Turn) (a z : ℕ) → a ≡ in_hand_after h → Level a (detected_by t.reply) (outcome_of t.reply) z → z ≡ in_hand_after (t ∷ h)
@@ -247,37 +243,35 @@ sound_always w e h =
     (rw (h.records.fit l.code low) (or-true (not (reads_record e)))))
     (rw (lies-there ts l.code low h.given.sheets.len, h.given.sheets.fit l.code low) (or-true (not (reads_tally e))))
 
-never-eight : (l : Line) (count : ℕ) (a : Settings) (ts : List ℤ) (e : Event) → memory_sound l count a ts e ≡ true → refusal_of l count a ts e ≢ memory_no
+never-eight : (l : Line) (count : ℕ) (a : Settings) (ts : List ℤ) (e : Event) → memory_sound l count a ts e ≡ true → number_in (refusal_of l count a ts e) ≢ memory_no
 unfolding refusal_of
 never-eight l count a ts e h = not_eight (faults_of l count a ts e) (rw h refl)
 
 pub no_refusal : (r : Reply) → is_done r ≡ true → refusal_in r ≡ 0
-no_refusal (Refused number input) h = absurd (subst T (sym h) tt)
-no_refusal (Done d) h = refl
+no_refusal (Err r) h = absurd (subst T (sym h) tt)
+no_refusal (Ok d) h = refl
 
 -- the reply of an event has the refusal's number
-refusal_shown : (l : Line) (count : ℕ) (a : Settings) (ts : List ℤ) (e : Event) → refusal_in (step_of l count a ts e).reply ≡ refusal_of l count a ts e
-unfolding step_of
+refusal_shown : (l : Line) (count : ℕ) (a : Settings) (ts : List ℤ) (e : Event) → refusal_in (step_of l count a ts e).reply ≡ number_in (refusal_of l count a ts e)
 refusal_shown l count a ts e =
-    let n = refusal_of l count a ts e in
-    if_ind (λ (o : Out). refusal_in o.reply ≡ n) (eqb n 0) _ _
-    (λ z. no_refusal (accepted l a ts e).reply (accepted-done l a ts e) ∙ sym (eqb-true n 0 z))
-    (λ _. refl)
+    step_ind (λ (o : Out). refusal_in o.reply ≡ number_in (refusal_of l count a ts e)) l count a ts e
+    (λ y. rw y.passed (no_refusal (accepted l a ts e).reply (accepted-done l a ts e)))
+    (λ _ h. rw h refl)
 
-cancel_answer : (l : Line) (count : ℕ) (a : Settings) (ts : List ℤ) → memory_sound l count a ts Cancel ≡ true → refusal_of l count a ts Cancel ≡ (when chance_of l.undo then 0 else nothing_no)
-unfolding refusal_of event_ranged status_refusal event_agrees run_unsafe run_occupied nothing_to_cancel
+cancel_answer : (l : Line) (count : ℕ) (a : Settings) (ts : List ℤ) → memory_sound l count a ts Cancel ≡ true → number_in (refusal_of l count a ts Cancel) ≡ (when chance_of l.undo then 0 else nothing_no)
+unfolding refusal_of event_ranged refused_running refused_in_emergency refused_paused event_agrees run_unsafe run_occupied nothing_to_cancel
 cancel_answer l count a ts h = rw h (by l.undo)
   where
-    by : (u : Undo) → ◌≡◌ {A = ℕ} (when no_chance u then nothing_no else 0) (when chance_of u then 0 else nothing_no)
+    by : (u : Undo) → number_in (when no_chance u then Some Nothing else None) ≡ (when chance_of u then 0 else nothing_no)
     by u = by_cases (no_chance u) (λ y. rw y refl) (λ n. rw n refl)
 
 page_report : (p : List Verdict) → Page p → report_fit (tally_of_page p) ≡ true
 unfolding report_fit tally_of_page
-page_report p g = and_intro (page_fit g.fine g.few) (le-leb _ _ (apart-holds (nets_of p)))
+page_report p g = and_intro (page_fit g.fine g.few) (le-leb _ _ (apart_holds (nets_of p)))
 
 -- a code's sheet, with these pages
 sheet_printed : (w : World) (h : Holds w) (code : ℕ) → code ≤ 99
-    → report_on w.state.settings w.state.tallies code ≡ printed (sheet_of (part_of_page (h.pages code)) (get_or w.state.settings code blank).target)
+    → report_on w.state.settings w.state.tallies code ≡ Ok (sheet_of (part_of_page (h.pages code)) (get_or w.state.settings code blank).target)
 sheet_printed w h code low =
     let ss = w.state.settings in
     let ts = w.state.tallies in
@@ -285,7 +279,7 @@ sheet_printed w h code low =
     let is = sheet_part ts h.pages s code low in
     prints (length ss) (get_or ss code blank) ts code h.records.count s.len low (h.records.fit code low) (s.fit code low)
     (rw is (page_report (h.pages code) (s.pages code)))
-    ∙ ap (λ (q : Part). printed (sheet_of q (get_or ss code blank).target)) is
+    ∙ ap (λ (q : Part). Ok (sheet_of q (get_or ss code blank).target)) is
 
 -- the counts of a fit part add to n
 counts-add_up : (w : World) (h : Holds w) (code : ℕ) → code ≤ 99 → add_up (part_at w.state.tallies code).counts ≡ (part_at w.state.tallies code).tally.n

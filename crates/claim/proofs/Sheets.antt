@@ -7,6 +7,7 @@ use native.Mathlib.Omega.{arith}
 use lib.Dec.{T, eqb, ltb}
 use lib.IntN.{ℤ}
 use lib.ListN.{length}
+use Rattle.std.specs.Prelude.{Option, Some, None}
 use borrow.Author.Tests.{eqb-true, eqb-false, eq-eqb, leb-true, ltb-true}
 use Rattle.laws.specs.Choice.{when◌then◌else◌}
 use Rattle.laws.proofs.Tests.{if_ind, by_cases}
@@ -24,8 +25,7 @@ use Rattle.undo.proofs.Laws.{taken_by-room}
 use Rattle.line.specs.Effect.{replied}
 use Rattle.line.specs.Tallying.{Out, untallied, noted, recorded}
 use Rattle.undo.specs.declared.Undo.{Undo}
-use Rattle.line.specs.declared.storing.Storing.{Storing}
-use Rattle.line.specs.declared.storing.Storing.TheVariants.{Nothing, Record}
+use Rattle.line.specs.declared.stored.Stored.{Stored}
 use Rattle.line.specs.declared.line.Line.{Line}
 use Rattle.line.specs.declared.effect.Effect.{Effect}
 use Rattle.line.proofs.Facts.{FitLine}
@@ -46,9 +46,9 @@ abbrev pub beside : Line → Pages → (ℕ → ℤ) → Book
 beside l f g = record { code = l.code; pages = f; chance = chance_of l.undo; targets = g }
 
 -- the targets with what an event stores
-abbrev pub aims_of : (ℕ → ℤ) → Storing → ℕ → ℤ
-aims_of g Nothing = g
-aims_of g (Record c s) = aimed g c s.target
+abbrev pub aims_of : (ℕ → ℤ) → Option Stored → ℕ → ℤ
+aims_of g None = g
+aims_of g (Some x) = aimed g x.code x.settings.target
 
 -- what a cancel would put back is the part without the last verdict
 abbrev pub Back : Undo → List Verdict → Type 0
@@ -199,13 +199,13 @@ abbrev tallied-out : Effect → ℤ → List ℤ → Part → Out
 tallied-out x target ts q =
     record {
       line = with_undo x.line (kept q);
-      storing = Nothing;
+      storing = None;
       tallies = with_part ts x.line.code (added_part q x.outcome x.net target);
       reply = replied x 1;
     }
 
 abbrev passed-out : Effect → List ℤ → Out
-passed-out x ts = record { line = with_undo x.line nothing; storing = Nothing; tallies = ts; reply = replied x 0 }
+passed-out x ts = record { line = with_undo x.line nothing; storing = None; tallies = ts; reply = replied x 0 }
 
 noted_by : (x : Effect) (target : ℤ) (ts : List ℤ) (b : Bool) → takes_at ts x.line.code x.outcome x.net target ≡ b
     → noted x target ts ≡ (when b then tallied-out x target ts (part_at ts x.line.code) else passed-out x ts)

@@ -28,11 +28,10 @@ use Rattle.line.specs.Sample.{step1, foreign_rises, running_tick, sampled, tick_
 use Rattle.line.specs.Command.{ran, stopping, alarmed}
 use Rattle.line.specs.Tallying.{Out, recorded, code_cleared}
 use Rattle.line.specs.State.{State, active_of}
-use Rattle.line.specs.Refusal.{refusal_of}
 use Rattle.line.specs.Step.{accepted, refused, step_of, out_on}
 use Rattle.line.specs.declared.line.Line.{Line}
 use Rattle.line.specs.declared.effect.Effect.{Effect}
-use Rattle.line.proofs.Accepted.{accepted_tells, sound_tells}
+use Rattle.line.proofs.Accepted.{sound_tells, step_ind, numbered}
 use Rattle.line.proofs.Facts.{fit_tells}
 use Rattle.line.proofs.Signals.{used_of, tick-counts}
 use Rattle.book.specs.Boxes.{outcome_of}
@@ -104,16 +103,14 @@ accepted-kept l a ts (Setup s) t h = quiet-kept l (Setup s) _ refl refl refl
 accepted-kept l a ts (Store c s) t h = quiet-kept l (Store c s) _ refl refl refl
 
 pub step_kept : (s : State) (e : Event) → Kept s.line e (out_on s e)
-unfolding step_of is_running_tick
+unfolding is_running_tick
 step_kept s e =
     let l = s.line in
     let a = active_of s in
-    let n = refusal_of l (length s.settings) a s.tallies e in
-    if_ind (Kept l e) (eqb n 0) _ _
-    (λ z. let told = accepted_tells l (length s.settings) a s.tallies e (eqb-true n 0 z) in
-    let fit = fit_tells l (sound_tells l (length s.settings) a s.tallies e told.sound).line in
-    accepted-kept l a s.tallies e (le-leb l.setup.tf longest (timers l.setup fit.setup).tf) told.ranged)
-    (λ z. quiet-kept l e (refused l s.tallies n) (rw z refl) refl refl)
+    step_ind (Kept l e) l (length s.settings) a s.tallies e
+    (λ y. let fit = fit_tells l (sound_tells l (length s.settings) a s.tallies e y.sound).line in
+    accepted-kept l a s.tallies e (le-leb l.setup.tf longest (timers l.setup fit.setup).tf) y.ranged)
+    (λ r _. quiet-kept l e (refused l s.tallies r) (rw (numbered r) refl) refl refl)
 
 -- ---- at most eight
 

@@ -33,11 +33,11 @@ use Rattle.line.specs.Command.{ran, stopping, alarmed}
 use Rattle.line.specs.Tallying.{Out, recorded, code_cleared}
 use Rattle.item.specs.Item.{in_hand}
 use Rattle.line.specs.State.{State, active_of}
-use Rattle.line.specs.Refusal.{refusal_of}
+use Rattle.refusal.specs.Table.{number_of}
 use Rattle.line.specs.Step.{accepted, step_of, out_on}
 use Rattle.line.specs.declared.line.Line.{Line}
 use Rattle.line.specs.declared.effect.Effect.{Effect}
-use Rattle.line.proofs.Accepted.{accepted_tells, sound_tells}
+use Rattle.line.proofs.Accepted.{sound_tells, step_ind, numbered}
 use Rattle.line.proofs.Facts.{fit_tells}
 use Rattle.line.proofs.Sorting.{tick-sorts}
 use Rattle.book.specs.Boxes.{outcome_of}
@@ -207,12 +207,9 @@ pub step-apart : (s : State) (e : Event) (k : ℕ) → length s.line.sorters ≡
     → refusal_in (out_on s e).reply ≡ 0
     → SameSorter (sorter_of (out_on s e).line k)
     (sorter_after (sorter_of s.line k) (set_of s.line k) (is_running_tick s.line e (out_on s e).reply) (outcome_of (out_on s e).reply) (out_on s e).line.status)
-unfolding step_of
 step-apart s e k n h =
     let l = s.line in
     let a = active_of s in
-    let r = refusal_of l (length s.settings) a s.tallies e in
-    if_ind (Apart l e k) (eqb r 0) _ _
-    (λ y. let told = accepted_tells l (length s.settings) a s.tallies e (eqb-true r 0 y) in
-    λ _. moved_apart l e (accepted l a s.tallies e) k n h (fit_tells l (sound_tells l (length s.settings) a s.tallies e told.sound).line).status (accepted_moves l a s.tallies e told.ranged))
-    (λ y z. absurd (eqb-false r 0 y z))
+    step_ind (Apart l e k) l (length s.settings) a s.tallies e
+    (λ y _. moved_apart l e (accepted l a s.tallies e) k n h (fit_tells l (sound_tells l (length s.settings) a s.tallies e y.sound).line).status (accepted_moves l a s.tallies e y.ranged))
+    (λ r _ z. absurd (eqb-false (number_of r) 0 (numbered r) z))

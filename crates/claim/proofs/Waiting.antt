@@ -29,11 +29,10 @@ use Rattle.line.specs.Sample.{step1, running_tick, sampled, tick_of}
 use Rattle.line.specs.Command.{ran, stopping, alarmed}
 use Rattle.line.specs.Tallying.{Out, recorded, code_cleared}
 use Rattle.line.specs.State.{active_of}
-use Rattle.line.specs.Refusal.{refusal_of}
 use Rattle.line.specs.Step.{accepted, step_of, out_on}
 use Rattle.line.specs.declared.line.Line.{Line}
 use Rattle.line.specs.declared.effect.Effect.{Effect}
-use Rattle.line.proofs.Accepted.{Accepted, accepted_tells}
+use Rattle.line.proofs.Accepted.{Accepted, step_ind, numbered}
 use Rattle.line.proofs.Facts.{FitLine}
 use Rattle.line.proofs.Keeps.{error-none}
 use Rattle.line.proofs.Left.{left_on, is_ninth, Times, Timed, Ticked, quiet-times, halting-times, tick-times}
@@ -130,20 +129,19 @@ accepted-counted l a ts ClearAll count f h = quiet-times l _ refl refl
 accepted-counted l a ts ErrorReset count f h = quiet-times l _ refl refl
 accepted-counted l a ts NoOperation count f h = quiet-times l l refl refl
 accepted-counted l a ts (Setup s) count f h =
-    empty-times l _ (stopped-empty l f.status (setup-stopped l.status s (status-known l f.status) h.status))
+    empty-times l _ (stopped-empty l f.status (setup-stopped l.status s (status-known l f.status) h.running h.emergency h.paused))
 accepted-counted l a ts (Store c s) count f h = quiet-times l l refl refl
 
 answer-counted : (w : World) (e : Event) → Holds w → Counted w.state.line e (out_on w.state e)
-unfolding step_of is_counted is_running_tick
+unfolding is_counted is_running_tick
 answer-counted w e h =
     let l = w.state.line in
     let ts = w.state.tallies in
     let a = active_of w.state in
     let count = length w.state.settings in
-    let n = refusal_of l count a ts e in
-    if_ind (Counted l e) (eqb n 0) _ _
-    (λ z. accepted-counted l a ts e count h.given.fit (accepted_tells l count a ts e (eqb-true n 0 z)))
-    (λ z. rw z (quiet-times l l refl refl))
+    step_ind (Counted l e) l count a ts e
+    (λ y. accepted-counted l a ts e count h.given.fit y)
+    (λ r _. rw (numbered r) (quiet-times l l refl refl))
 
 -- ---- the boxes that have their outcome
 

@@ -7,7 +7,7 @@ use Rattle.settings.specs.declared.Settings.{Settings}
 use Rattle.event.specs.Kind.{is_run, of_sample}
 use Rattle.event.specs.Setup.{is_bench}
 use Rattle.event.specs.declared.Event.{Event}
-use Rattle.event.specs.declared.reply.Reply.{Reply}
+use Rattle.event.specs.Reply.{Reply}
 use Rattle.status.specs.Status.{stopped}
 use Rattle.line.specs.State.{active_of}
 use Rattle.line.specs.declared.line.Line.{Line}

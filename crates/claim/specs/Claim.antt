@@ -1,5 +1,5 @@
 -- Demand 3, "one claim over the whole list": `Claim` is what `claim::ledger` ensures.
-use Rattle.std.specs.Prelude.{ℕ, ◌+◌, ◌*◌, ◌≤◌, ◌≡◌, ◌≢◌, List, get_or}
+use Rattle.std.specs.Prelude.{ℕ, ◌+◌, ◌*◌, ◌≤◌, ◌≡◌, ◌≢◌, List, get_or, Ok, Err}
 use Rattle.laws.specs.Choice.{when◌then◌else◌, bit}
 use Rattle.settings.specs.Settings.{last_code, blank}
 use Rattle.event.specs.declared.Event.{Event}
@@ -7,11 +7,10 @@ use Rattle.event.specs.declared.Event.TheVariants.{Cancel}
 use Rattle.lists.specs.Counts.{add_up}
 use Rattle.tallies.specs.Memory.{part_numbers, part, part_at}
 use Rattle.sheet.specs.Sheet.{sheet_of}
-use Rattle.sheet.specs.Report.{printed, report_on}
+use Rattle.sheet.specs.Report.{report_on}
 use Rattle.item.specs.Item.{in_hand}
 use Rattle.refusal.specs.Table.{memory_no, nothing_no}
-use Rattle.event.specs.declared.reply.Reply.{Reply}
-use Rattle.event.specs.declared.reply.Reply.TheVariants.{Refused, Done}
+use Rattle.event.specs.Reply.{Reply}
 use Rattle.book.specs.Book.{tallied_by, book_of}
 use Rattle.book.specs.Page.{part_of_page}
 use Rattle.claim.specs.Run.{World, run, answer}
@@ -19,12 +18,12 @@ use Rattle.book.specs.Boxes.{detected_in, judged_in, outcomes_in, in_hand_after}
 
 -- the refusal number of a reply, 0 if accepted
 abbrev pub refusal_in : Reply → ℕ
-refusal_in (Refused number input) = number
-refusal_in (Done d) = 0
+refusal_in (Err r) = r.number
+refusal_in (Ok d) = 0
 
 abbrev pub tallied_in : Reply → ℕ
-tallied_in (Refused number input) = 0
-tallied_in (Done d) = d.tallied
+tallied_in (Err r) = 0
+tallied_in (Ok d) = d.tallied
 
 -- what holds after a list of events, and of the reply to any next one
 pub record Stands (w : World) : Type 0 where
@@ -46,7 +45,7 @@ pub record Stands (w : World) : Type 0 where
   -- each code's sheet is printed, with the figures of the verdicts standing under it in the book
   pub sheets : (code : ℕ) → code ≤ last_code
       → report_on w.state.settings w.state.tallies code
-      ≡ printed (sheet_of (part_of_page ((book_of w.history).pages code)) (get_or w.state.settings code blank).target)
+      ≡ Ok (sheet_of (part_of_page ((book_of w.history).pages code)) (get_or w.state.settings code blank).target)
   -- no event of a list is ever refused 8
   pub sound : (e : Event) → refusal_in (answer w e).reply ≢ memory_no
 

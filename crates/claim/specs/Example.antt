@@ -1,11 +1,9 @@
 -- 01, "Text lines": the worked example as events and replies, with each of T-01's six sorters set as 01 sets its one.
-use Rattle.std.specs.Prelude.{ℕ, ◌≡◌, List, [], ◌∷◌, map, ℤ, pos}
+use Rattle.std.specs.Prelude.{ℕ, ◌≡◌, List, [], ◌∷◌, map, ℤ, pos, Ok, Err}
 use Rattle.event.specs.declared.SorterSetup.{SorterSetup}
 use Rattle.event.specs.declared.Event.{Event}
 use Rattle.event.specs.declared.Event.TheVariants.{Sample, Run, ClearCode, Setup, Store}
-use Rattle.event.specs.declared.reply.Reply.{Reply}
-use Rattle.event.specs.declared.reply.Reply.TheVariants.{Refused, Done}
-use Rattle.event.specs.Reply.{no_error}
+use Rattle.event.specs.Reply.{Reply, no_error}
 use Rattle.book.specs.Book.{Turn}
 use Rattle.claim.specs.Run.{run}
 
@@ -41,12 +39,12 @@ events =
 
 abbrev pub show : ℕ → ℕ → ℕ → ℕ → ℕ → ℕ → ℤ → ℕ → ℕ → Reply
 show s b c o d u x t e =
-    Done (record { status = s; busy = b; conveyor = c; sorter = o; detected = d; outcome = u; net = x; tallied = t; error = e })
+    Ok (record { status = s; busy = b; conveyor = c; sorter = o; detected = d; outcome = u; net = x; tallied = t; error = e })
 
 -- the last reply stands first
 abbrev pub replies : List Reply
 replies =
-    Refused 2 0
+    Err (record { number = 2; input = 0 })
     ∷ show 1 0 1 0 0 3 (pos 1004) 1 no_error
     ∷ show 1 1 1 0 0 0 (pos 0) 0 no_error
     ∷ show 1 1 1 0 1 0 (pos 0) 0 no_error

@@ -3,7 +3,7 @@ use Rattle.std.specs.Prelude.{Bool, false, ◌&&◌, eqb}
 use Rattle.mask.specs.Bits.{lowest_off}
 use Rattle.event.specs.Kind.{of_sample}
 use Rattle.event.specs.declared.Event.{Event}
-use Rattle.event.specs.declared.reply.Reply.{Reply}
+use Rattle.event.specs.Reply.{Reply}
 use Rattle.line.specs.Line.{is_running}
 use Rattle.line.specs.declared.line.Line.{Line}
 use Rattle.claim.specs.Claim.{refusal_in}

@@ -6,7 +6,7 @@ use Rattle.queue.specs.Queue.{places}
 use Rattle.detector.specs.Foreign.{carried, eight_carried, due, foreign_ticked}
 use Rattle.event.specs.Kind.{of_sample}
 use Rattle.event.specs.declared.Event.{Event}
-use Rattle.event.specs.declared.reply.Reply.{Reply}
+use Rattle.event.specs.Reply.{Reply}
 use Rattle.line.specs.Fit.{line_fit}
 use Rattle.line.specs.Sample.{foreign_rises}
 use Rattle.line.specs.State.{State}

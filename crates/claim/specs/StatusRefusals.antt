@@ -5,7 +5,7 @@ use Rattle.event.specs.Kind.{is_run, is_stop, is_setup, is_store}
 use Rattle.event.specs.Event.{event_ranged}
 use Rattle.event.specs.declared.Event.{Event}
 use Rattle.status.specs.Status.{running, paused, emergency}
-use Rattle.refusal.specs.Table.{status_no, emergency_no, paused_no}
+use Rattle.refusal.specs.Table.{status_no, emergency_no, paused_no, number_in}
 use Rattle.line.specs.State.{State}
 use Rattle.line.specs.Step.{step_on}
 use Rattle.line.specs.Refusal.{memory_sound, refusal_of}
@@ -16,7 +16,7 @@ use Rattle.claim.specs.Claim.{refusal_in}
 abbrev pub Exactly : ℕ → (ℕ → Event → Bool) → Type 0
 Exactly number test =
     (l : Line) (count : ℕ) (a : Settings) (ts : List ℤ) (e : Event) → memory_sound l count a ts e ≡ true → event_ranged e ≡ true
-    → eqb (refusal_of l count a ts e) number ≡ test l.status e
+    → eqb (number_in (refusal_of l count a ts e)) number ≡ test l.status e
 
 pub record StatusRefusals : Type 0 where
   -- "Refusal 3 remains for running."

@@ -1,11 +1,9 @@
 -- 02, T-14 "No box left waiting": `NoBoxWaits` is what `claim::no_box_waits` ensures.
-use Rattle.std.specs.Prelude.{ℕ, ◌+◌, ◌*◌, ◌≤◌, ◌≡◌, ◌≢◌, Bool, true, ◌&&◌, ◌||◌, not, List, [], ◌∷◌, ◌++◌, eqb}
+use Rattle.std.specs.Prelude.{ℕ, ◌+◌, ◌*◌, ◌≤◌, ◌≡◌, ◌≢◌, Bool, true, ◌&&◌, ◌||◌, not, List, [], ◌∷◌, ◌++◌, eqb, Ok, Err}
 use Rattle.laws.specs.Choice.{when◌then◌else◌, within, bit}
 use Rattle.status.specs.Status.{ninth_error}
-use Rattle.event.specs.Reply.{no_error}
+use Rattle.event.specs.Reply.{Reply, no_error}
 use Rattle.event.specs.declared.Event.{Event}
-use Rattle.event.specs.declared.reply.Reply.{Reply}
-use Rattle.event.specs.declared.reply.Reply.TheVariants.{Refused, Done}
 use Rattle.line.specs.declared.line.Line.{Line}
 use Rattle.book.specs.Book.{Turn}
 use Rattle.book.specs.Boxes.{detected_by, outcome_of, detected_in, judged_in, outcomes_in}
@@ -14,8 +12,8 @@ use Rattle.claim.specs.RunningTick.{is_running_tick}
 use Rattle.claim.specs.Signals.{added_up}
 
 abbrev pub error_in : Reply → ℕ
-error_in (Refused number input) = no_error
-error_in (Done d) = d.error
+error_in (Err r) = no_error
+error_in (Ok d) = d.error
 
 -- "A running tick that error 7 ended is not counted.": a line that runs has error none, so an error 7 in the reply is this tick's
 unfoldable pub is_counted : Line → Event → Reply → Bool

@@ -1,19 +1,23 @@
 -- 01, "Text lines": what is answered to a line of text, and where in a lent buffer it is written.
-use Rattle.std.specs.Prelude.{ℕ, ◌+◌, Bool, true, false, List, ◌++◌, eqb, ltb, ℤ, take, drop}
-use Rattle.laws.specs.Choice.{when◌then◌else◌}
+use Rattle.std.specs.Prelude.{ℕ, ◌+◌, Bool, true, false, List, ◌++◌, ltb, ℤ, take, drop, Option, Result, Ok, Err}
 use Rattle.refusal.specs.Rows.{lengths_wrong}
-use Rattle.refusal.specs.Table.{table, first_holding}
+use Rattle.refusal.specs.Table.{number_of, number_in, table, first_holding}
 use Rattle.refusal.specs.declared.Faults.{Faults}
-use Rattle.sheet.specs.declared.answer.Report.{Report}
-use Rattle.event.specs.declared.reply.Reply.TheVariants.{Refused}
+use Rattle.refusal.specs.declared.Refusal.{Refusal}
+use Rattle.sheet.specs.declared.sheet.Sheet.{Sheet}
+use Rattle.event.specs.Reply.{Reply}
 use Rattle.print.specs.Reply.{reply_text}
 use Rattle.print.specs.Sheet.{sheet_text, sheet_room}
 use Rattle.print.specs.Written.{put_text}
 
--- a report's refusal, or the code's sheet
-abbrev pub report_answer : ℕ → Report → List ℕ
-report_answer code r =
-    when eqb r.number 0 then sheet_text code r.sheet else reply_text (Refused r.number r.input)
+-- "The reply has the number and input .. (0 but for 5)"
+abbrev pub refused_by : Refusal → Reply
+refused_by r = Err (record { number = number_of r; input = 0 })
+
+-- the code's sheet, or a report's refusal
+abbrev pub report_answer : ℕ → Result Sheet Refusal → List ℕ
+report_answer code (Ok sheet) = sheet_text code sheet
+report_answer code (Err refusal) = reply_text (refused_by refusal)
 
 -- "A line that reads as no event and no report is refused 1": which conditions of the table hold; "Every call checks both lengths"
 abbrev pub text_faults : ℕ → List ℤ → Faults
@@ -22,18 +26,20 @@ text_faults count ts =
       memory = lengths_wrong count ts;
       form = true;
       value = false;
-      status = 0;
+      running = false;
+      emergency = false;
+      paused = false;
       contradiction = false;
       safety = false;
       occupied = false;
       nothing = false;
     }
 
-abbrev pub text_refusal : ℕ → List ℤ → ℕ
+abbrev pub text_refusal : ℕ → List ℤ → Option Refusal
 text_refusal count ts = first_holding (table (text_faults count ts))
 
 abbrev pub refused_answer : ℕ → List ℤ → List ℕ
-refused_answer count ts = reply_text (Refused (text_refusal count ts) 0)
+refused_answer count ts = reply_text (Err (record { number = number_in (text_refusal count ts); input = 0 }))
 
 -- no answer is longer, in bytes
 abbrev pub answer_room : ℕ

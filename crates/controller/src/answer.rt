@@ -1,12 +1,12 @@
 // Answers in a lent buffer, one behind the other: each goes in from `at` on, and says where it ends.
-ghost use Rattle.std.specs.Prelude.{◌+◌, ◌≤◌, ◌≡◌, length};
+ghost use Rattle.std.specs.Prelude.{◌+◌, ◌≤◌, ◌≡◌, Some, length};
 ghost use Rattle.print.specs.Reply.{reply_text};
 ghost use Rattle.print.specs.Sheet.{sheet_text};
-ghost use Rattle.controller.specs.Answer.{answer_room, no_room, report_answer, text_refusal, refused_answer, put_at};
+ghost use Rattle.controller.specs.Answer.{answer_room, no_room, refused_by, report_answer, text_refusal, refused_answer, put_at};
 
-use event::Reply;
-use refusal::Faults;
-use sheet::{Report, Sheet};
+use event::{Refused, Reply};
+use refusal::Refusal;
+use sheet::Sheet;
 
 // No answer is longer, in bytes.
 pub const ANSWER_ROOM: usize = print::SHEET_ROOM;
@@ -40,36 +40,38 @@ fn put_sheet(out: &mut [u8], at: usize, code: u64, s: Sheet) -> usize
     at + n
 }
 
-pub(crate) fn put_report(out: &mut [u8], at: usize, code: u64, r: Report) -> usize
+// The refusal of a report, or of text that is none.
+fn put_refusal(out: &mut [u8], at: usize, r: Refusal) -> usize
+    requires { at + answer_room ≤ length out.old }
+    ensures end { result ≡ at + length (reply_text (refused_by r)) }
+    ensures output { out.new ≡ put_at at (reply_text (refused_by r)) out.old }
+{
+    let refused = Refused {
+        number: r.number(),
+        input: 0,
+    };
+    put_reply(out, at, Err(refused))
+}
+
+pub(crate) fn put_report(out: &mut [u8], at: usize, code: u64, r: Result<Sheet, Refusal>) -> usize
     requires { at + answer_room ≤ length out.old }
     ensures end { result ≡ at + length (report_answer code r) }
     ensures output { out.new ≡ put_at at (report_answer code r) out.old }
 {
-    if r.number == 0 {
-        let s = r.sheet;
-        return put_sheet(out, at, code, s);
+    match r {
+        Ok(sheet) => put_sheet(out, at, code, sheet),
+        Err(refusal) => put_refusal(out, at, refusal),
     }
-    let reply = Reply::Refused {
-        number: r.number,
-        input: r.input,
-    };
-    put_reply(out, at, reply)
 }
 
-fn refusal_of_text(count: usize, tallies: &[i64]) -> u64
-    ensures { result ≡ text_refusal count tallies.now }
+fn refusal_of_text(count: usize, tallies: &[i64]) -> Refusal
+    ensures { Some result ≡ text_refusal count tallies.now }
 {
-    let faults = Faults {
-        memory: refusal::lengths_wrong(count as u64, tallies),
-        form: true,
-        value: false,
-        status: 0,
-        contradiction: false,
-        safety: false,
-        occupied: false,
-        nothing: false,
-    };
-    faults.number()
+    if refusal::lengths_wrong(count as u64, tallies) {
+        Refusal::Memory
+    } else {
+        Refusal::Form
+    }
 }
 
 // The refusal of text that is no event and no report.
@@ -78,9 +80,5 @@ pub(crate) fn put_refused(out: &mut [u8], at: usize, count: usize, tallies: &[i6
     ensures end { result ≡ at + length (refused_answer count tallies.now) }
     ensures output { out.new ≡ put_at at (refused_answer count tallies.now) out.old }
 {
-    let reply = Reply::Refused {
-        number: refusal_of_text(count, tallies),
-        input: 0,
-    };
-    put_reply(out, at, reply)
+    put_refusal(out, at, refusal_of_text(count, tallies))
 }

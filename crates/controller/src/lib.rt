@@ -13,8 +13,8 @@
 //     let step = line.apply(&mut records, &mut tallies, Event::Run);
 //     let line = step.line;
 //     match step.reply {
-//         Reply::Done(done) => ..                      what the line shows now, and what the event did
-//         Reply::Refused { number, input } => ..       nothing has changed
+//         Ok(done) => ..             what the line shows now, and what the event did
+//         Err(refused) => ..         nothing has changed
 //     }
 //
 // `step.storing` is the settings record that the event replaced, if any. A `Plant` is a line that owns its records:
@@ -23,12 +23,11 @@
 //
 // Whoever runs its events so, one after another, is after each of them where the claim over every list of events says.
 //
-// It refuses with the number of the first condition that holds: 8 memory of a wrong length or unfit, 2 a field out of range,
+// It refuses with the `number` of the first condition that holds: 8 memory of a wrong length or unfit, 2 a field out of range,
 // then why the status does not allow the event: 3 the line is running, 9 it is in emergency, 10 it is paused; 4 a
 // contradiction, 5 a required safety input off (`input` says which), 6 run with a box on the scale, 7 nothing to cancel.
 //
-// `report` is a code's sheet, where its `number` is 0; the memories are only read. It refuses 8, memory, and 2, a code out
-// of range.
+// `report` is a code's sheet; the memories are only read. It refuses 8, memory, and 2, a code out of range.
 //
 // `serve` is either as a line of text, answered as text behind what stands in `out` up to `at`. Text that is neither is
 // refused 1. No answer is longer than `ANSWER_ROOM` bytes; where `out` has less behind `at` (`no_room`), nothing is done and
@@ -42,41 +41,29 @@ ghost use Rattle.line.specs.State.{state};
 ghost use Rattle.print.specs.Reply.{reply_text};
 ghost use Rattle.text.specs.Read.{read_line};
 ghost use Rattle.controller.specs.Answer.{answer_room, put_at};
-ghost use Rattle.controller.specs.Serve.{other_answer, served_step, serving, served_of};
+ghost use Rattle.controller.specs.Serve.{served_step, serving, served_of};
 
 mod answer;
 
 pub use answer::{ANSWER_ROOM, no_room};
 use answer::{put_refused, put_reply, put_report};
-pub use event::{Done, Event, Reply, Sample, Setup, SorterSetup};
-pub use line::{Line, Step, Storing};
+pub use event::{Done, Event, Refused, Reply, Sample, Setup, SorterSetup};
+pub use line::{Line, Step, Stored};
+pub use refusal::Refusal;
 pub use replay::{Plant, Turned};
 pub use settings::Settings;
-pub use sheet::{Report, Sheet, report};
-pub use spread::Spread;
+pub use sheet::{Sheet, report};
 use text::Read;
-pub use weight::Figure;
 
 // The next line, and how many bytes of the output are answers now. `full` is 1 where there was too little room and nothing
 // was done, else 0.
+// It is no Option, nor `full` a bool: what is handed on at each line of text has no tag and no padding, which would be copied
+// with it (docs/ARCHITECTURE.md has the rules of it).
 #[derive(Clone, Copy)]
 pub struct Served {
     pub line: Line,
     pub at: usize,
     pub full: u64,
-}
-
-// What is no event: a report is printed, other text is refused.
-fn not_event(records: &[Settings], tallies: &[i64], said: Read, out: &mut [u8], at: usize) -> usize
-    requires { at + answer_room ≤ length out.old }
-    ensures end { result ≡ at + length (other_answer records.now tallies.now said) }
-    ensures output { out.new ≡ put_at at (other_answer records.now tallies.now said) out.old }
-{
-    let Read::Report(code) = said else {
-        return put_refused(out, at, records.len(), tallies);
-    };
-    let r = sheet::report(records, tallies, code);
-    put_report(out, at, code, r)
 }
 
 // A step's reply is written.
@@ -85,12 +72,9 @@ fn answered(step: Step, out: &mut [u8], at: usize) -> Served
     ensures answer { result ≡ served_step step at }
     ensures output { out.new ≡ put_at at (reply_text step.reply) out.old }
 {
-    let reply = step.reply;
-    let line = step.line;
-    let end = put_reply(out, at, reply);
     Served {
-        line: line,
-        at: end,
+        line: step.line,
+        at: put_reply(out, at, step.reply),
         full: 0,
     }
 }
@@ -117,15 +101,22 @@ pub fn serve(
             full: 1,
         };
     }
-    let said = text::read_line(text);
-    let Read::Event(e) = said else {
-        let end = not_event(records, tallies, said, out, at);
+    let Some(said) = text::read_line(text) else {
         return Served {
             line: line,
-            at: end,
+            at: put_refused(out, at, records.len(), tallies),
             full: 0,
         };
     };
-    let step = line.apply(records, tallies, e);
-    answered(step, out, at)
+    match said {
+        Read::Event(e) => answered(line.apply(records, tallies, e), out, at),
+        Read::Report(code) => {
+            let report = sheet::report(records, tallies, code);
+            Served {
+                line: line,
+                at: put_report(out, at, code, report),
+                full: 0,
+            }
+        }
+    }
 }

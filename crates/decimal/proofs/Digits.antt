@@ -1,19 +1,17 @@
 -- Laws of a number's digits. Assumes nothing.
 use Prim.Native.Nat.{ℕ, suc, zero, ◌+◌, ◌*◌, ◌/◌, ◌%◌, ◌^◌, ◌≤◌, ◌<◌}
-use mathlib.Core.Bool.{true, false}
-use mathlib.Core.Path.{◌≡◌, refl, ap, ◌∙◌}
+use mathlib.Core.Path.{◌≡◌, ap, ◌∙◌}
 use mathlib.Core.List.{List, [], ◌∷◌, ◌++◌}
 use lib.Dec.{ltb}
 use lib.IntN.{ℤ, pos, negsuc, nat_abs}
-use lib.Signed.{le_z, mag}
+use lib.Signed.{mag}
 use lib.ListN.{length, length-append}
 use native.Mathlib.Omega.{arith}
 use native.Mathlib.Nat.{pow-suc}
 use borrow.Author.Tests.{lt-ltb, le-ltb, ltb-true, ltb-false}
-use Rattle.laws.proofs.Signed.{not_neg, pos_abs}
 use Rattle.laws.proofs.Tests.{if_ind, by_cases}
 use Rattle.decimal.specs.Bytes.{digit_byte}
-use Rattle.decimal.specs.Number.{decimal_by, decimal, number_text}
+use Rattle.decimal.specs.Number.{decimal_by, decimal}
 
 -- fuel does not matter where there is enough
 any_fuel : (k j n : ℕ) → n < k → n < j → decimal_by k n ≡ decimal_by j n
@@ -68,14 +66,7 @@ at_most (suc k) n h =
 pub at_most_20 : (n : ℕ) → n < 2 ^ 64 → length (decimal n) ≤ 20
 at_most_20 n h = at_most 19 n (omega arith)
 
--- a signed number, by its sign, and its size
-pub number-above : (v : ℤ) → le_z (pos 0) v ≡ true → number_text v ≡ decimal (nat_abs v)
-number-above v h = ap number_text (pos_abs v h)
-
-pub number-below : (v : ℤ) → le_z (pos 0) v ≡ false → number_text v ≡ 45 ∷ decimal (nat_abs v)
-number-below (pos n) h = absurd (not_neg n h)
-number-below (negsuc n) h = refl
-
+-- the size of a signed number
 pub size_at-most_19 : (v : ℤ) → mag v < 2 ^ 63 → length (decimal (nat_abs v)) ≤ 19
 size_at-most_19 (pos n) h = at_most 18 n (omega arith)
 size_at-most_19 (negsuc n) h = at_most 18 (suc n) (omega arith)

@@ -2,42 +2,25 @@
 use mathlib.Core.Path.{◌≡◌, refl, sym, ap, ◌∙◌}
 use mathlib.Core.Bool.{Bool, true, false, ◌&&◌, not}
 use mathlib.Core.List.{List, [], map}
-use Prim.Native.Nat.{ℕ, ◌+◌, ◌<◌, ◌≤◌}
+use Prim.Native.Nat.{ℕ, ◌+◌, ◌≤◌}
 use native.Mathlib.Omega.{arith}
 use lib.Dec.{leb}
-use lib.ListN.{length, get_or, take, drop, length-map}
-use borrow.Author.Tests.{eq-eqb, leb-true, le-leb}
+use lib.ListN.{length, length-map}
+use borrow.Author.Tests.{leb-true, le-leb}
 use Rattle.laws.specs.Choice.{bit, within}
 use Rattle.laws.proofs.Tests.{both, and_intro, if_ind}
 use Rattle.lists.specs.Each.{any_of, all_of, without_first}
-use Rattle.lists.proofs.Each.{any_next, one-counted, first-less, first_keeps, map_keeps}
+use Rattle.lists.proofs.Each.{one-counted, first-less, first_keeps, map_keeps}
 use Rattle.time.specs.Time.{longest, fallen, ended, is_time}
 use Rattle.queue.specs.Queue.{places, waiting, is_empty, is_full, queue_fit}
-use Rattle.queue.proofs.Waits.{waits-laid, waiting-is, waits-counted, joined-waiting}
+use Rattle.queue.proofs.Waits.{waits-laid, joined-waiting}
 use Rattle.queue.proofs.Keeps.{laid-fit, joined-fit, fit_tells}
 use Rattle.detector.specs.Foreign.{signals_of, carrying, carried, eight_carried, ended_in, due, delays_fallen, signalled, foreign_ticked, oldest_used, no_signal, foreign_fit}
 use Rattle.detector.specs.declared.Foreign.{Foreign}
 
--- the first n places, where n is the number of signals, hold them
-pub counted_is : (f : Foreign) (n : ℕ) → n ≡ waiting f.signals → take n f.signals.waits ≡ signals_of f
-unfolding signals_of
-counted_is f n h = rw h (waits-counted f.signals)
-
--- that number in a detector of eight places
-pub few_are : (f : Foreign) (n : ℕ) → n ≡ waiting f.signals → length f.signals.waits ≡ places → n ≤ places
-few_are f n h k = omega (arith, h, waiting-is f.signals k)
-
 pub due_any : (f : Foreign) → due f ≡ any_of ended (signals_of f)
 unfolding due ended_in
 due_any f = one-counted ended (signals_of f)
-
--- one that has ended among those left of the first n
-pub due_here :
-    (f : Foreign) (n i : ℕ) → n ≡ waiting f.signals → n ≤ length f.signals.waits → i < n
-    → any_of ended (take n f.signals.waits) ≡ any_of ended (drop i (take n f.signals.waits)) → get_or f.signals.waits i 0 ≡ 0 → true ≡ due f
-due_here f n i h m t left e =
-    let next = any_next ended n f.signals.waits i 0 m t (eq-eqb (get_or f.signals.waits i 0) 0 e) in
-    sym (due_any f ∙ ap (any_of ended) (sym (counted_is f n h)) ∙ left ∙ next)
 
 -- ---- how many are carried
 

@@ -2,7 +2,6 @@
 #![tactic(auto)]
 
 ghost use Rattle.std.specs.Prelude.{◌≡◌};
-ghost use Rattle.time.specs.Time.{fallen};
 ghost use Rattle.detector.specs.Foreign.{eight_carried, due, delays_fallen, signalled, foreign_ticked, oldest_used, no_signal, foreign_fit};
 
 use queue::Queue;
@@ -13,17 +12,8 @@ pub struct Foreign {
     pub signals: Queue,
 }
 
-// A delay one tick further.
-fn nearer(delay: u16) -> u16
-    ensures { result ≡ fallen delay }
-{
-    if delay == 0 {
-        return 0;
-    }
-    delay - 1
-}
-
 impl Foreign {
+    #[tactic(auto, unfolding(crate::specs::Foreign::no_signal, crate::specs::Foreign::carrying))]
     pub fn none() -> Foreign
         ensures { result ≡ no_signal }
     {
@@ -33,11 +23,11 @@ impl Foreign {
     }
 
     // As many are carried as can be, ended ones included.
+    #[tactic(auto, unfolding(crate::specs::Foreign::eight_carried, crate::specs::Foreign::carried, crate::specs::Foreign::signals_of, queue::specs::Queue::is_full, queue::specs::Queue::waiting))]
     pub fn eight_carried(self) -> bool
         ensures { result ≡ eight_carried self }
     {
-        let signals = self.signals;
-        signals.is_full()
+        self.signals.is_full()
     }
 
     // With none carried no place is copied.
@@ -45,32 +35,28 @@ impl Foreign {
     fn delays_fallen(self) -> Foreign
         ensures { result ≡ delays_fallen self }
     {
-        let signals = self.signals;
-        if signals.is_empty() {
+        if self.signals.is_empty() {
             return self;
         }
-        let n = signals.waiting() as usize;
-        let delays = signals.waits;
+        let delays = self.signals.taken();
         let mut left = [0u16; Queue::PLACES as usize];
-        let mut i: usize = 0;
-        while i < n {
-            left[i] = nearer(delays[i]);
-            i += 1;
+        for (i, delay) in delays.iter().enumerate() {
+            left[i] = delay.saturating_sub(1);
         }
         Foreign {
             signals: Queue {
                 waits: left,
-                n: n as u64,
+                n: delays.len() as u64,
             },
         }
     }
 
+    #[tactic(auto, unfolding(crate::specs::Foreign::signalled))]
     fn signalled(self, tf: u64) -> Foreign
         ensures { result ≡ signalled self tf }
     {
-        let signals = self.signals;
         Foreign {
-            signals: signals.joined(tf),
+            signals: self.signals.joined(tf),
         }
     }
 
@@ -87,41 +73,24 @@ impl Foreign {
     }
 
     // One has ended: the next verdict is foreign.
-    #[tactic(auto, using(crate::proofs::Signals::due_here))]
     pub fn due(self) -> bool
         ensures { result ≡ due self }
     {
-        let signals = self.signals;
-        let n = signals.waiting() as usize;
-        let delays = signals.waits;
-        let mut i: usize = 0;
-        while i < n {
-            if delays[i] == 0 {
-                return true;
-            }
-            i += 1;
-        }
-        false
+        self.signals.taken().contains(&0)
     }
 
     // Without the oldest that has ended. Up to that one k is i.
     pub fn used(self) -> Foreign
         ensures { result ≡ oldest_used self }
     {
-        let signals = self.signals;
-        let n = signals.waiting() as usize;
-        let delays = signals.waits;
         let mut left = [0u16; Queue::PLACES as usize];
         let mut k: usize = 0;
-        let mut i: usize = 0;
-        while i < n {
-            let delay = delays[i];
-            let oldest = (k == i) & (delay == 0);
+        for (i, delay) in self.signals.taken().iter().enumerate() {
+            let oldest = (k == i) & (*delay == 0);
             if !oldest {
-                left[k] = delay;
+                left[k] = *delay;
                 k += 1;
             }
-            i += 1;
         }
         Foreign {
             signals: Queue {
@@ -131,10 +100,10 @@ impl Foreign {
         }
     }
 
+    #[tactic(auto, unfolding(crate::specs::Foreign::foreign_fit))]
     pub fn fit(self) -> bool
         ensures { result ≡ foreign_fit self }
     {
-        let signals = self.signals;
-        signals.fit(0)
+        self.signals.fit(0)
     }
 }

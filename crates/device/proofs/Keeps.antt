@@ -13,7 +13,7 @@ use Rattle.time.specs.Time.{longest, is_time, fallen}
 use lib.ListN.{length}
 use Rattle.queue.specs.Queue.{places, waits_of, laid, waiting, is_empty, one_ends, queue_fit}
 use Rattle.queue.proofs.Keeps.{laid-fit, queue_ticked-fit, joined-fit}
-use Rattle.queue.proofs.Waits.{empty-stays, none-ends, empty-is}
+use Rattle.queue.proofs.Waits.{empty_stays, none_ends, empty_is}
 use Rattle.queue.specs.declared.Queue.{Queue}
 use Rattle.device.specs.Sensor.{settled, sensor_fit}
 use Rattle.device.specs.Sorter.{sorting, sorter_ticked, queued, sorter_off, sorter_fit}
@@ -68,12 +68,12 @@ unfolding sorting sorter_ticked
 idle_stays s to h =
     let r = neither (is_empty s.queue) (ltb 0 s.on) h in
     let off : fallen s.on ≡ s.on = omega (arith, ltb-false 0 s.on r.1) in
-    rw (empty-stays s.queue r.0, none-ends s.queue r.0, off) refl
+    rw (empty_stays s.queue r.0, none_ends s.queue r.0, off) refl
 
 empty-fit : (q : Queue) (shortest : ℕ) → length q.waits ≡ places → is_empty q ≡ true → queue_fit q shortest ≡ true
 unfolding queue_fit waits_of all_of
 empty-fit q shortest w e =
-    let none : q.n ≡ 0 = eqb-true q.n 0 (empty-is q w ∙ e) in
+    let none : q.n ≡ 0 = eqb-true q.n 0 (empty_is q w ∙ e) in
     rw none refl
 
 pub idle_fit : (s : Sorter) → length s.queue.waits ≡ places → sorting s ≡ false → sorter_fit s ≡ true

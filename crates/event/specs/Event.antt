@@ -4,34 +4,19 @@ use Rattle.settings.specs.Settings.{is_code, record_ranged, limits_ordered}
 use Rattle.event.specs.Setup.{setup_ranged, setup_agrees}
 use Rattle.event.specs.Sample.{sample_ranged}
 use Rattle.event.specs.declared.Event.{Event}
-use Rattle.event.specs.declared.Event.TheVariants.{Sample, Run, Stop, Emergency, Recall, Cancel, ClearCode, ClearAll, ErrorReset, NoOperation, Setup, Store}
+use Rattle.event.specs.declared.Event.TheVariants.{Sample, Recall, ClearCode, Setup, Store}
 
 -- no field is out of range
 unfoldable pub event_ranged : Event → Bool
 event_ranged (Sample s) = sample_ranged s
-event_ranged Run = true
-event_ranged Stop = true
-event_ranged Emergency = true
 event_ranged (Recall c) = is_code c
-event_ranged Cancel = true
 event_ranged (ClearCode c) = is_code c
-event_ranged ClearAll = true
-event_ranged ErrorReset = true
-event_ranged NoOperation = true
 event_ranged (Setup s) = setup_ranged s
 event_ranged (Store c s) = is_code c && record_ranged s
+event_ranged e = true
 
 -- "limits out of order; mode 2 with edge 1" is not the case; nor, by 02, T-02, "Sort masks other than 0 in mode 4"
 unfoldable pub event_agrees : Event → Bool
-event_agrees (Sample s) = true
-event_agrees Run = true
-event_agrees Stop = true
-event_agrees Emergency = true
-event_agrees (Recall c) = true
-event_agrees Cancel = true
-event_agrees (ClearCode c) = true
-event_agrees ClearAll = true
-event_agrees ErrorReset = true
-event_agrees NoOperation = true
 event_agrees (Setup s) = setup_agrees s
 event_agrees (Store c s) = limits_ordered s
+event_agrees e = true

@@ -1,6 +1,7 @@
 // What an event answers.
 
-// The answer to an accepted event: what the line shows after it, and what the event did.
+// The answer to an accepted event: what the line shows after it, and what the event did. The numbers are the words that the
+// printed line has for them.
 #[derive(Clone, Copy)]
 pub struct Done {
     // 0 stopped, 1 running, 2 paused, 3 emergency
@@ -25,9 +26,13 @@ impl Done {
     pub const NO_ERROR: u64 = 255;
 }
 
-// A refusal's number, with the number of the lowest required input that is off (0 but for refusal 5); or what was done.
+// A refusal, by its number, since the calls beside the line have numbers of their own.
 #[derive(Clone, Copy)]
-pub enum Reply {
-    Refused { number: u64, input: u64 },
-    Done(Done),
+pub struct Refused {
+    // 1 to 18
+    pub number: u64,
+    // the lowest required input that is off, 1 to 8; 0 but for refusal 5
+    pub input: u64,
 }
+
+pub type Reply = Result<Done, Refused>;

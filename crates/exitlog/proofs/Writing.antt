@@ -1,7 +1,8 @@
 -- The lines of a call as they are written: pair by pair from the numbers of the buffer. Assumes nothing.
 use Prim.Native.Nat.{ℕ, suc, ◌+◌, ◌-◌, ◌*◌, ◌≤◌, ◌<◌}
 use mathlib.Core.Path.{◌≡◌, refl, sym, ap, ◌∙◌}
-use mathlib.Core.Logic.{◌≢◌}
+use Rattle.std.specs.Prelude.{None, Some}
+use Rattle.pairing.specs.declared.Refusal.{Refusal}
 use mathlib.Core.List.{List, [], ◌∷◌, ◌++◌, append_assoc, append-nil}
 use native.Mathlib.Omega.{arith}
 use lib.ListN.{length, get_or, drop, length-append}
@@ -11,7 +12,7 @@ use Rattle.print.specs.Steps.{Wrote}
 use Rattle.print.specs.Written.{length_written, buffer_after}
 use Rattle.print.proofs.Put.{put_length, put_front, wrote_then, wrote_in}
 use Rattle.pairing.specs.Pairing.{Pair, flat}
-use Rattle.pairing.specs.Answer.{longest_list, refusal_of, Given}
+use Rattle.pairing.specs.Answer.{longest_list, number_of, refusal_of, Given}
 use Rattle.pairing.specs.declared.Counts.{Counts}
 use Rattle.pairing.proofs.Accepted.{accepted}
 use Rattle.exitlog.specs.Lines.{pair_text, pairs_text, counts_text, paired, refused, pair_room, call_room, Printed}
@@ -83,7 +84,7 @@ module _ (before pairs : List ℕ) (n : ℕ) (out : List ℕ) (at i : ℕ) (g : 
 
 -- ---- what a call prints, by its answer
 
-module _ (vs ts : List ℕ) (a b : ℕ) (before after : List ℕ) (c : Counts) (ok : refusal_of vs ts a b (length before) ≡ 0) (g : Given vs ts a b before after c) where
+module _ (vs ts : List ℕ) (a b : ℕ) (before after : List ℕ) (c : Counts) (ok : refusal_of vs ts a b (length before) ≡ None) (g : Given vs ts a b before after c) where
   -- the pairs stand in the buffer, at most as many as a list has ticks
   pub pairs-within : (2 * c.pairs ≤ length after) × (c.pairs ≤ longest_list)
   pairs-within =
@@ -100,6 +101,6 @@ module _ (vs ts : List ℕ) (a b : ℕ) (before after : List ℕ) (c : Counts) (
   paired-lines out out' n w =
       record { text = pairs_text g.pairs ++ counts_text c; prints = paired ok g.largest g.counted; end = rw lines_are at w.0; output = rw lines_are at w.1 }
 
-pub refused-line : (vs ts : List ℕ) (a b room n : ℕ) → refusal_of vs ts a b room ≡ n → n ≢ 0 → (out out' : List ℕ) (m : ℕ)
-    → (m ≡ length_written call_room (refused_text n 0) out) × (out' ≡ buffer_after call_room (refused_text n 0) out) → Printed vs ts a b room out out' m
-refused-line vs ts a b room n e h out out' m w = record { text = refused_text n 0; prints = refused e h; end = w.0; output = w.1 }
+pub refused-line : (vs ts : List ℕ) (a b room : ℕ) (r : Refusal) → refusal_of vs ts a b room ≡ Some r → (out out' : List ℕ) (m : ℕ)
+    → (m ≡ length_written call_room (refused_text (number_of r) 0) out) × (out' ≡ buffer_after call_room (refused_text (number_of r) 0) out) → Printed vs ts a b room out out' m
+refused-line vs ts a b room r e out out' m w = record { text = refused_text (number_of r) 0; prints = refused e; end = w.0; output = w.1 }

@@ -1,13 +1,14 @@
 -- What a call prints: each pair as `verdict= signal=`, then `pairs= missing= extra=`, or its refusal. Fields stand as in 01, "Text lines".
-use Rattle.std.specs.Prelude.{ℕ, ◌+◌, ◌*◌, ◌≡◌, List, [], ◌∷◌, ◌++◌, ◌≢◌}
+use Rattle.std.specs.Prelude.{ℕ, ◌+◌, ◌*◌, ◌≡◌, List, [], ◌∷◌, ◌++◌, None, Some}
 use Rattle.decimal.specs.Bytes.{bytes}
 use Rattle.decimal.specs.Number.{decimal}
 use Rattle.print.specs.Text.{line_end, field, joined}
 use Rattle.print.specs.Reply.{refused_text}
 use Rattle.print.specs.Written.{length_written, buffer_after}
 use Rattle.pairing.specs.Pairing.{Pair}
-use Rattle.pairing.specs.Answer.{longest_list, refusal_of, Largest, Counted}
+use Rattle.pairing.specs.Answer.{longest_list, number_of, refusal_of, Largest, Counted}
 use Rattle.pairing.specs.declared.Counts.{Counts}
+use Rattle.pairing.specs.declared.Refusal.{Refusal}
 
 unfoldable pub pair_text : ℕ → ℕ → List ℕ
 pair_text v t = joined (bytes " ") (field "verdict" (decimal v) ∷ field "signal" (decimal t) ∷ []) ++ line_end
@@ -24,8 +25,8 @@ counts_text c =
 
 -- what a call prints that is lent a buffer for so many numbers: a largest pairing, which one is free, and its counts; or its refusal
 pub data Prints (vs ts : List ℕ) (a b room : ℕ) : List ℕ → Type 0 where
-  paired : {ps : List Pair} {c : Counts} → refusal_of vs ts a b room ≡ 0 → Largest vs ts a b ps → Counted vs ts ps c → Prints vs ts a b room (pairs_text ps ++ counts_text c)
-  refused : {n : ℕ} → refusal_of vs ts a b room ≡ n → n ≢ 0 → Prints vs ts a b room (refused_text n 0)
+  paired : {ps : List Pair} {c : Counts} → refusal_of vs ts a b room ≡ None → Largest vs ts a b ps → Counted vs ts ps c → Prints vs ts a b room (pairs_text ps ++ counts_text c)
+  refused : {r : Refusal} → refusal_of vs ts a b room ≡ Some r → Prints vs ts a b room (refused_text (number_of r) 0)
 
 -- no line of a pair is longer, and no line of the counts
 abbrev pub pair_room : ℕ

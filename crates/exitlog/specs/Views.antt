@@ -1,9 +1,8 @@
 -- The reader's parts in the terms of `Form`, and the numbers of a buffer as lines.
-use Rattle.std.specs.Prelude.{ℕ, zero, suc, ◌≡◌, List, [], ◌∷◌, ◌++◌, pos}
+use Rattle.std.specs.Prelude.{ℕ, zero, suc, ◌≡◌, List, [], ◌∷◌, ◌++◌, pos, Option}
 use Rattle.numeral.specs.Number.{some, number_head}
 use Rattle.exitlog.specs.Entry.{tick_of}
 use Rattle.exitlog.specs.Lines.{pair_text}
-use Rattle.exitlog.specs.declared.entry.Tick.{Tick}
 
 -- the text is a number without a sign, and nothing behind it
 pub record PlainNumber (s : List ℕ) : Type 0 where
@@ -11,7 +10,7 @@ pub record PlainNumber (s : List ℕ) : Type 0 where
   pub is : number_head s ≡ some (pos n) []
 
 -- its tick
-abbrev pub TickOf : List ℕ → Tick → Type 0
+abbrev pub TickOf : List ℕ → Option ℕ → Type 0
 TickOf s t = (p : PlainNumber s) → t ≡ tick_of (pos p.n)
 
 -- the lines of so many pairs of the numbers of a buffer

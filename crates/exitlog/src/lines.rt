@@ -7,8 +7,8 @@ ghost use Rattle.pairing.specs.Answer.{longest_list};
 ghost use Rattle.exitlog.specs.Lines.{pair_text, counts_text, pair_room, counts_room, call_room, Printed};
 ghost use Rattle.exitlog.specs.Views.{numbers_text};
 
-use event::Reply;
-use pairing::{Answer, Counts, LONGEST_LIST, pair_exits};
+use event::Refused;
+use pairing::{Counts, LONGEST_LIST, pair_exits};
 use print::{count_at, reply_line, text_at};
 
 // No line of a pair is longer, and no line of the counts, in bytes.
@@ -44,10 +44,8 @@ fn put_pairs(out: &mut [u8], pairs: &[u64], n: usize) -> usize
     ensures { Wrote out.old 0 (numbers_text n pairs.now) (pair_room * n) out.new result }
 {
     let mut at = 0;
-    let mut i = 0;
-    while i < n {
+    for i in 0..n {
         at = put_pair(out, at, pairs[2 * i], pairs[2 * i + 1]);
-        i += 1;
     }
     at
 }
@@ -59,11 +57,7 @@ fn put_refused(out: &mut [u8], number: u64) -> usize
     if out.len() < CALL_ROOM {
         return 0;
     }
-    let reply = Reply::Refused {
-        number: number,
-        input: 0,
-    };
-    reply_line(out, reply)
+    reply_line(out, Err(Refused { number, input: 0 }))
 }
 
 // The lines of the pairs, and then the counts; the same of a buffer that is too short.
@@ -92,7 +86,7 @@ pub fn call_lines(
     ensures { Printed verdicts.now signals.now a b (length pairs.old) out.old out.new result }
 {
     match pair_exits(verdicts, signals, a, b, pairs) {
-        Answer::Refused(number) => put_refused(out, number),
-        Answer::Paired(c) => put_paired(out, pairs, c),
+        Err(refusal) => put_refused(out, refusal.number()),
+        Ok(c) => put_paired(out, pairs, c),
     }
 }

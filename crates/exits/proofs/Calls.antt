@@ -1,18 +1,14 @@
 -- A call, line by line: a tick that joins a list, how lines are read, and what stands at the front of the output. Assumes nothing.
 use mathlib.Core.Path.{◌≡◌, ap, ◌∙◌}
-use mathlib.Core.List.{List, []}
+use mathlib.Core.List.{List}
 use Prim.Native.Nat.{ℕ, ◌≤◌}
 use native.Mathlib.Omega.{arith}
 use lib.ListN.{length, take}
-use Rattle.text.specs.Form.{line_values}
-use Rattle.blocks.specs.Left.{kept_bytes}
 use Rattle.calls.specs.Kept.{Noted}
 use Rattle.calls.proofs.Kept.{joined, at_front}
-use Rattle.calls.proofs.Lines.{cut_read}
-use Rattle.exitlog.specs.Entry.{verdict_form, signal_form, window_form, tick_in, verdict_or, signal_or, window_or, read_entry}
 use Rattle.exitlog.specs.Lines.{call_room, Prints, Printed}
-use Rattle.exitlog.specs.declared.entry.Entry.TheVariants.{Verdict, Signal, Other}
-use Rattle.exits.specs.Session.{places, State, none_begun, after, Closes, with_counts, state_of, Holds}
+use Rattle.exitlog.specs.declared.entry.Entry.TheVariants.{Verdict, Signal}
+use Rattle.exits.specs.Session.{places, State, after, with_counts, state_of, Holds}
 use Rattle.exits.specs.declared.session.Call.{Call}
 
 -- the states that differ in one list
@@ -42,14 +38,6 @@ module _ (c : Call) (vs ts : List ℕ) (h : Holds c vs ts) (tick n : ℕ) (l : L
         ap (with_signals (state_of c vs ts)) (joined ts c.signals tick places l n e h.signals j),
         record { verdict-places = h.verdict-places; signal-places = j.same ∙ e; verdicts = h.verdicts; signals = omega (arith, w, e) },
       )
-
--- ---- a reader by what is kept of a line, and what the end prints before the first call
-
-pub cut : (t : List ℕ) → read_entry (take kept_bytes t) ≡ read_entry t
-cut t = cut_read (λ (s : List ℕ). verdict_or (tick_in (line_values verdict_form s)) (signal_or (tick_in (line_values signal_form s)) (window_or (line_values window_form s)))) Other t
-
-pub quiet : (text : List ℕ) → Closes none_begun text → text ≡ []
-quiet text e = e
 
 -- ---- what a call printed stands at the front of the output
 

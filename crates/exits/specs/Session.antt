@@ -1,5 +1,5 @@
 -- The calls of an input, line by line: what is kept of the call that is being read, and what a line prints.
-use Rattle.std.specs.Prelude.{ℕ, ◌+◌, ◌*◌, ◌≤◌, ◌≡◌, Bool, true, false, List, [], length, take}
+use Rattle.std.specs.Prelude.{ℕ, ◌+◌, ◌*◌, ◌≤◌, ◌≡◌, Bool, true, false, List, [], length, take, Option, None, Some}
 use Rattle.refusal.specs.Table.{form_no, value_no}
 use Rattle.print.specs.Reply.{refused_text}
 use Rattle.pairing.specs.Answer.{longest_list}
@@ -8,7 +8,7 @@ use Rattle.calls.specs.Kept.{noted}
 use Rattle.exitlog.specs.Entry.{read_entry}
 use Rattle.exitlog.specs.Lines.{Prints}
 use Rattle.exitlog.specs.declared.entry.Entry.{Entry}
-use Rattle.exitlog.specs.declared.entry.Entry.TheVariants.{Begin, Verdict, Signal, TooWide, Other}
+use Rattle.exitlog.specs.declared.entry.Entry.TheVariants.{Begin, Verdict, Signal, TooWide}
 use Rattle.exits.specs.declared.session.Call.{Call}
 
 -- a list that is too long is refused whatever follows: one tick over the longest is kept
@@ -28,21 +28,24 @@ abbrev pub none_begun : State
 none_begun = record { begun = false; wide = false; a = 0; b = 0; verdicts = []; signals = [] }
 
 -- before a call has begun only the line that begins one has its place
-abbrev pub placed : Bool → Entry → Entry
+abbrev pub placed : Bool → Option Entry → Option Entry
 placed true e = e
-placed false (Begin a b) = Begin a b
-placed false (Verdict t) = Other
-placed false (Signal t) = Other
-placed false TooWide = Other
-placed false Other = Other
+placed false (Some (Begin a b)) = Some (Begin a b)
+placed false (Some (Verdict t)) = None
+placed false (Some (Signal t)) = None
+placed false (Some TooWide) = None
+placed false None = None
 
--- the call behind a line
+-- the call behind a line; one of no such form or place leaves it
 abbrev pub after : State → Entry → State
 after s (Begin a b) = record { begun = true; wide = false; a = a; b = b; verdicts = []; signals = [] }
 after s (Verdict t) = record { begun = s.begun; wide = s.wide; a = s.a; b = s.b; verdicts = noted places s.verdicts t; signals = s.signals }
 after s (Signal t) = record { begun = s.begun; wide = s.wide; a = s.a; b = s.b; verdicts = s.verdicts; signals = noted places s.signals t }
 after s TooWide = record { begun = s.begun; wide = true; a = s.a; b = s.b; verdicts = s.verdicts; signals = s.signals }
-after s Other = s
+
+abbrev pub after_line : State → Option Entry → State
+after_line s None = s
+after_line s (Some e) = after s e
 
 -- what is printed where a call ends: nothing if none has begun; a tick that 64 bits do not hold is refused 2, whatever else holds; the buffer of the call has room for two numbers for each verdict
 abbrev pub ClosesBy : Bool → Bool → State → List ℕ → Type 0
@@ -59,18 +62,21 @@ Says s (Begin a b) text = Closes s text
 Says s (Verdict t) text = text ≡ []
 Says s (Signal t) text = text ≡ []
 Says s TooWide text = text ≡ []
-Says s Other text = text ≡ refused_text form_no 0
+
+abbrev pub SaysLine : State → Option Entry → List ℕ → Type 0
+SaysLine s None text = text ≡ refused_text form_no 0
+SaysLine s (Some e) text = Says s e text
 
 -- the program, for what it prints over a whole input
 abbrev pub exit_calls : Service
 exit_calls =
     record {
-      Entry = Entry;
+      Entry = Option Entry;
       State = State;
       reads = read_entry;
       start = none_begun;
-      after = λ s e. after s (placed s.begun e);
-      Says = λ s e text. Says s (placed s.begun e) text;
+      after = λ s e. after_line s (placed s.begun e);
+      Says = λ s e text. SaysLine s (placed s.begun e) text;
       Closes = Closes;
     }
 

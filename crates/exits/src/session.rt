@@ -1,42 +1,43 @@
-// A call, line by line: its lists stand in two lent memories of PLACES numbers each.
-ghost use Rattle.std.specs.Prelude.{◌≡◌, ◌*◌, ◌≤◌, length, take};
-ghost use Rattle.print.specs.Reply.{refused_text};
-ghost use Rattle.calls.specs.Kept.{Noted};
-ghost use Rattle.exitlog.specs.Entry.{read_entry};
+// A call, line by line: its lists stand in two memories of PLACES numbers each, with how many there are beside, since there is
+// no heap.
+ghost use Rattle.std.specs.Prelude.{◌≡◌, ◌*◌, ◌≤◌, length, take, None};
+ghost use Rattle.exitlog.specs.Entry.{short_entry, read_entry};
 ghost use Rattle.exitlog.specs.Lines.{call_room};
-ghost use Rattle.exits.specs.Session.{places, placed, after, Closes, Says, no_call, new_call, with_counts, made_wide, state_of, Holds};
+ghost use Rattle.exits.specs.Session.{places, placed, after, after_line, Closes, Says, SaysLine, exit_calls, no_call, new_call, with_counts, made_wide, state_of, Holds};
+ghost use Rattle.std.proofs.Common.{rules};
+ghost use Rattle.calls.proofs.Lines.{cut_read};
 
-use event::Reply;
+use calls::{Calls, note, refuse};
 use exitlog::{Entry, call_lines, read_entry};
 use pairing::LONGEST_LIST;
-use print::reply_line;
+use refusal::Refusal;
 
 // Of a list that is too long one tick over the longest is kept: it is refused whatever follows.
-pub(crate) const PLACES: usize = LONGEST_LIST + 1;
+const PLACES: usize = LONGEST_LIST + 1;
 
 // The call that is being read. Its lists are the first `verdicts` and the first `signals` numbers of the memories.
 #[derive(Clone, Copy)]
-pub(crate) struct Call {
+struct Call {
     // there is one
-    pub(crate) begun: bool,
+    begun: bool,
     // a tick came that 64 bits do not hold
-    pub(crate) wide: bool,
-    pub(crate) a: u64,
-    pub(crate) b: u64,
-    pub(crate) verdicts: usize,
-    pub(crate) signals: usize,
+    wide: bool,
+    a: u64,
+    b: u64,
+    verdicts: usize,
+    signals: usize,
 }
 
 // What a line leaves: the call behind it, and how many bytes it prints.
 #[derive(Clone, Copy)]
-pub(crate) struct Served {
-    pub(crate) call: Call,
-    pub(crate) at: usize,
+struct Served {
+    call: Call,
+    at: usize,
 }
 
 impl Call {
     // No call has begun.
-    pub(crate) fn none() -> Call
+    fn none() -> Call
         ensures { result ≡ no_call }
     {
         Call {
@@ -89,31 +90,16 @@ impl Call {
     }
 }
 
-// A tick joins the list of the first `count` numbers, if it has a place.
-fn note(list: &mut [u64], count: usize, tick: u64) -> usize
-    requires { count ≤ length list.old }
-    ensures { Noted list.old count tick list.new result }
-{
-    if count < list.len() {
-        list[count] = tick;
-        return count + 1;
-    }
-    count
-}
-
 // Before a call has begun only the line that begins one has its place.
-fn in_place(begun: bool, e: Entry) -> Entry
+fn in_place(begun: bool, e: Option<Entry>) -> Option<Entry>
     ensures { result ≡ placed begun e }
 {
     if begun {
         return e;
     }
     match e {
-        Entry::Begin { a, b } => Entry::Begin { a: a, b: b },
-        Entry::Verdict(_) => Entry::Other,
-        Entry::Signal(_) => Entry::Other,
-        Entry::TooWide => Entry::Other,
-        Entry::Other => Entry::Other,
+        Some(Entry::Begin { a, b }) => Some(Entry::Begin { a, b }),
+        _ => None,
     }
 }
 
@@ -133,30 +119,11 @@ fn keep(call: Call, e: Entry, verdicts: &mut [u64], signals: &mut [u64]) -> Call
             call.with_counts(call.verdicts, n)
         }
         Entry::TooWide => call.too_wide(),
-        Entry::Other => call,
     }
 }
 
-// The line of a refusal.
-fn refuse(out: &mut [u8], number: u64) -> usize
-    requires { call_room ≤ length out.old }
-    ensures { (result ≤ length out.new) × (take result out.new ≡ refused_text number 0) }
-{
-    let reply = Reply::Refused {
-        number: number,
-        input: 0,
-    };
-    reply_line(out, reply)
-}
-
 // What is printed where a call ends: its lines, if one has begun.
-pub(crate) fn close(
-    call: Call,
-    verdicts: &[u64],
-    signals: &[u64],
-    pairs: &mut [u64],
-    out: &mut [u8],
-) -> usize
+fn close(call: Call, verdicts: &[u64], signals: &[u64], pairs: &mut [u64], out: &mut [u8]) -> usize
     requires { Holds call verdicts.now signals.now × (length pairs.old ≡ 2 * places) × (call_room ≤ length out.old) }
     ensures { (result ≤ length out.new) × Closes (state_of call verdicts.now signals.now) (take result out.new) }
 {
@@ -164,7 +131,7 @@ pub(crate) fn close(
         return 0;
     }
     if call.wide {
-        return refuse(out, refusal::VALUE);
+        return refuse(out, Refusal::Value.number());
     }
     let n = call.verdicts;
     let m = call.signals;
@@ -184,16 +151,13 @@ fn answer(
     ensures { (result ≤ length out.new) × Says (state_of call verdicts.now signals.now) e (take result out.new) }
 {
     match e {
-        Entry::Begin { a: _, b: _ } => close(call, verdicts, signals, pairs, out),
-        Entry::Verdict(_) => 0,
-        Entry::Signal(_) => 0,
-        Entry::TooWide => 0,
-        Entry::Other => refuse(out, refusal::FORM),
+        Entry::Begin { .. } => close(call, verdicts, signals, pairs, out),
+        _ => 0,
     }
 }
 
 // A line of text: what it prints goes to the front of `out`.
-pub(crate) fn serve_line(
+fn serve_line(
     call: Call,
     verdicts: &mut [u64],
     signals: &mut [u64],
@@ -203,11 +167,84 @@ pub(crate) fn serve_line(
 ) -> Served
     requires { Holds call verdicts.old signals.old × (length pairs.old ≡ 2 * places) × (call_room ≤ length out.old) }
     ensures holds { Holds result.call verdicts.new signals.new × (result.at ≤ length out.new) }
-    ensures signals_after { state_of result.call verdicts.new signals.new ≡ after (state_of call verdicts.old signals.old) (placed call.begun (read_entry line.now)) }
-    ensures says { Says (state_of call verdicts.old signals.old) (placed call.begun (read_entry line.now)) (take result.at out.new) }
+    ensures signals_after { state_of result.call verdicts.new signals.new ≡ after_line (state_of call verdicts.old signals.old) (placed call.begun (read_entry line.now)) }
+    ensures says { SaysLine (state_of call verdicts.old signals.old) (placed call.begun (read_entry line.now)) (take result.at out.new) }
 {
-    let e = in_place(call.begun, read_entry(line));
+    let Some(e) = in_place(call.begun, read_entry(line)) else {
+        let at = refuse(out, Refusal::Form.number());
+        return Served { call, at };
+    };
     let at = answer(call, e, verdicts, signals, pairs, out);
     let next = keep(call, e, verdicts, signals);
     Served { call: next, at: at }
+}
+
+// The call that is being read, with its memories: the ticks of the lists, and the buffer that a call is lent for its pairs.
+#[derive(Drop)]
+pub(crate) struct Session {
+    call: Call,
+    verdicts: [u64; PLACES],
+    signals: [u64; PLACES],
+    pairs: [u64; 2 * PLACES],
+}
+
+// Zeros for the ticks of a list and for the pairs; each says its length alone.
+fn list() -> [u64; PLACES]
+    ensures { length result ≡ places }
+{
+    [0; PLACES]
+}
+
+fn pair_buffer() -> [u64; 2 * PLACES]
+    ensures { length result ≡ 2 * places }
+{
+    [0; 2 * PLACES]
+}
+
+impl Calls for Session {
+    ghost service = { exit_calls };
+
+    ghost state = { λ s. state_of s.call s.verdicts s.signals };
+
+    ghost sound = { λ s. Holds s.call s.verdicts s.signals × (length s.pairs ≡ 2 * places) };
+
+    ghost room = { call_room };
+
+    fn fresh() -> Session {
+        Session {
+            call: Call::none(),
+            verdicts: list(),
+            signals: list(),
+            pairs: pair_buffer(),
+        }
+    }
+
+    fn line(&mut self, line: &[u8], out: &mut [u8]) -> usize {
+        let served = serve_line(
+            self.call,
+            &mut self.verdicts,
+            &mut self.signals,
+            &mut self.pairs,
+            line,
+            out,
+        );
+        self.call = served.call;
+        served.at
+    }
+
+    fn close(&mut self, out: &mut [u8]) -> usize {
+        close(
+            self.call,
+            &self.verdicts,
+            &self.signals,
+            &mut self.pairs,
+            out,
+        )
+    }
+
+    ghost room_fits = { Prim.search rules };
+
+    ghost cut = { cut_read short_entry None };
+
+    ghost quiet = { λ text e. e };
 }

@@ -10,11 +10,11 @@ use text::has_key;
 
 // The number behind a key at a place, and the place behind the number. The key is given with what separates it from the field
 // before and with its `=`.
-pub fn read_field(line: &[u8], at: usize, key: &[u8]) -> Found
+pub fn read_field(line: &[u8], at: usize, key: &[u8]) -> Option<Found>
     ensures { found line.now result ≡ held_head (field_head key.now (drop at line.now)) }
 {
     if !has_key(line, at, key) {
-        return Found::Nothing;
+        return None;
     }
     read_number(line, at + key.len())
 }

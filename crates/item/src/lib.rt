@@ -6,10 +6,11 @@ ghost use Rattle.weight.specs.Weight.{is_weight};
 ghost use Rattle.item.specs.Item.{in_hand, item_fit, new_item, ticked, weighed};
 
 use event::Setup;
-use time::LONGEST;
-use weight::{Figure, LARGEST, is_weight, mean_of, size};
+use time::is_time;
+use weight::{LARGEST, is_weight, mean_of, size};
 
-// None, waiting with ticks left, or averaging with ticks left and a sum (divisions).
+// None, waiting with ticks left, or averaging with ticks left and a sum (divisions). An enum of its own: an Option of the
+// other two would put one enum in another, and say `Some` before each.
 #[derive(Clone, Copy)]
 pub enum Item {
     None,
@@ -17,7 +18,8 @@ pub enum Item {
     Averaging(u64, i64),
 }
 
-// What a running tick makes of the item in hand: an item still, or the rounded mean (divisions).
+// What a running tick makes of the item in hand: an item still, or the rounded mean (divisions). An enum of its own, since
+// neither side of a Result would be the error.
 #[derive(Clone, Copy)]
 pub enum Weighed {
     Still(Item),
@@ -39,11 +41,7 @@ impl Item {
     pub fn in_hand(self) -> bool
         ensures { result ≡ in_hand self }
     {
-        match self {
-            Item::None => false,
-            Item::Waiting(_) => true,
-            Item::Averaging(_, _) => true,
-        }
+        !matches!(self, Item::None)
     }
 
     // Ticks left from 1 to tw or ta, and a sum that so many ticks can have.
@@ -53,12 +51,11 @@ impl Item {
     {
         match self {
             Item::None => true,
-            Item::Waiting(k) => (1 <= k) & (k <= setup.tw),
+            Item::Waiting(k) => (1..=setup.tw).contains(&k),
             Item::Averaging(k, sum) => {
-                if !((1 <= k) & (k <= setup.ta) & (setup.ta <= LONGEST)) {
-                    return false;
-                }
-                size(sum) <= LARGEST * (setup.ta - k)
+                (1..=setup.ta).contains(&k)
+                    && is_time(setup.ta)
+                    && size(sum) <= LARGEST * (setup.ta - k)
             }
         }
     }
@@ -82,10 +79,9 @@ impl Item {
                 if 1 < k {
                     return Weighed::Still(Item::Averaging(k - 1, total));
                 }
-                let mean = mean_of(total, setup.ta);
-                match mean {
-                    Figure::Of(m) => Weighed::Mean(m),
-                    Figure::None => Weighed::Still(Item::None),
+                match mean_of(total, setup.ta) {
+                    Some(mean) => Weighed::Mean(mean),
+                    None => Weighed::Still(Item::None),
                 }
             }
         }

@@ -1,14 +1,14 @@
--- Signed numbers: a local holds the bits of its number, so a test or a sum of locals is one of `to_z (of_z z)`.
--- These laws bring it back to the numbers; sizes are bounded by `nat_abs`, which omega reads. Assumes nothing.
+-- Signed numbers. A goal states a local's number by its bits, as `to_z (of_z z)`; these laws bring it back to z. Sizes are
+-- bounded by `nat_abs`, which omega reads. Assumes nothing.
 use mathlib.Core.Bool.{Bool, true, false, cond}
-use mathlib.Core.Path.{◌≡◌, refl, sym, ap, subst, ◌∙◌}
+use mathlib.Core.Path.{◌≡◌, refl, sym, subst, ◌∙◌}
 use Prim.Native.Nat.{ℕ, zero, suc, ◌+◌, ◌-◌, ◌≤◌, ◌<◌, ◌^◌, zero-le}
 use native.Mathlib.Omega.{arith}
 use native.Mathlib.Nat.{lt_of_le_of_lt}
 use lib.Dec.{T, ltb}
 use lib.IntN.{ℤ, pos, negsuc, neg_ℤ, nat_abs, ◌+ℤ◌, ◌-ℤ◌}
-use lib.Signed.{lt_z, le_z, non_neg, mag}
-use borrow.Author.Tests.{le-ltb, le-leb, ltb-true}
+use lib.Signed.{le_z, mag}
+use borrow.Author.Tests.{le-leb, ltb-true}
 use mir.Syntax.{w64}
 use mir.Val.{SFits, to_z, of_z}
 use mir.Facts.{to_z-of_z}
@@ -20,37 +20,18 @@ back z h = to_z-of_z {w = w64} {z = z} (record { sfits = h })
 pub to_z_small : (n : ℕ) → n < 2 ^ 63 → to_z w64 n ≡ pos n
 to_z_small n h = back (pos n) h
 
--- a test of two locals, and of a local and a literal
+-- a test of two locals
 module _ {a b : ℤ} {t : Bool} (fa : SFits w64 a) (fb : SFits w64 b) where
-  pub lt_was : lt_z (to_z w64 (of_z w64 a)) (to_z w64 (of_z w64 b)) ≡ t → lt_z a b ≡ t
-  lt_was h = rw (to_z-of_z fa, to_z-of_z fb) at h
-
   pub le_was : le_z (to_z w64 (of_z w64 a)) (to_z w64 (of_z w64 b)) ≡ t → le_z a b ≡ t
   le_was h = rw (to_z-of_z fa, to_z-of_z fb) at h
-
-module _ {a : ℤ} {t : Bool} (fa : SFits w64 a) (b : ℤ) where
-  pub lit_le : le_z b (to_z w64 (of_z w64 a)) ≡ t → le_z b a ≡ t
-  lit_le h = rw (to_z-of_z fa) at h
 
 -- what a test against 0 tells
 pub not_neg : (a : ℕ) → le_z (pos 0) (pos a) ≡ false → ⊥
 not_neg a h = let z : ◌≡◌ {A = Bool} true false = sym (le-leb 0 a zero-le) ∙ h in subst T z tt
 
-pub nonneg : (x : ℤ) → le_z (pos 0) x ≡ true → T (non_neg x)
-nonneg (pos a) h = tt
-nonneg (negsuc a) h = subst T (sym h) tt
-
 pub pos_abs : (x : ℤ) → le_z (pos 0) x ≡ true → x ≡ pos (nat_abs x)
 pos_abs (pos a) h = refl
 pos_abs (negsuc a) h = absurd (subst T (sym h) tt)
-
-pub flip : (x : ℤ) → le_z (pos 0) x ≡ false → negsuc 0 -ℤ x ≡ pos (mag x)
-flip (pos a) h = absurd (not_neg a h)
-flip (negsuc a) h = simp (le-ltb (suc a) 1 (omega arith)) (ap pos (omega arith))
-
-pub abs_neg : (x : ℤ) → le_z (pos 0) x ≡ false → nat_abs x ≡ mag x + 1
-abs_neg (pos a) h = absurd (not_neg a h)
-abs_neg (negsuc a) h = omega arith
 
 -- sizes
 difference : (a b : ℕ) (t : Bool) → ltb a b ≡ t → nat_abs (cond t (negsuc (b - suc a)) (pos (a - b))) ≤ a + b

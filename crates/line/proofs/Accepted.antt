@@ -1,10 +1,12 @@
--- What it tells that no rule of the table held. Assumes nothing.
-use mathlib.Core.Path.{◌≡◌}
+-- An event is accepted, which tells that no rule of the table held, or refused. Assumes nothing.
+use mathlib.Core.Path.{◌≡◌, refl}
 use mathlib.Core.Bool.{true, false, not, ◌||◌}
 use mathlib.Core.List.{List}
 use Prim.Native.Nat.{ℕ}
+use lib.Dec.{eqb}
 use lib.IntN.{ℤ}
 use lib.ListN.{length}
+use Rattle.std.specs.Prelude.{Option, Some, None}
 use borrow.Author.Tests.{not-true, not-false}
 use Rattle.laws.proofs.Tests.{both}
 use Rattle.settings.specs.Settings.{record_fit, settings_length}
@@ -19,33 +21,68 @@ use Rattle.line.specs.Fit.{line_fit}
 use Rattle.undo.specs.Undo.{no_chance}
 use Rattle.refusal.proofs.Lengths.{lengths_right}
 use Rattle.refusal.proofs.Numbers.{none-holds}
-use Rattle.refusal.proofs.Status.{status-passed}
-use Rattle.refusal.specs.Rows.{lengths_wrong, reads_record, reads_tally, status_refusal, run_unsafe, run_occupied, nothing_to_cancel}
+use Rattle.refusal.specs.Table.{number_of}
+use Rattle.refusal.specs.declared.Refusal.{Refusal}
+use Rattle.refusal.specs.declared.Refusal.TheVariants as refusal
+use Rattle.refusal.specs.Rows.{lengths_wrong, reads_record, reads_tally, refused_running, refused_in_emergency, refused_paused, run_unsafe, run_occupied, nothing_to_cancel}
 use Rattle.line.specs.Refusal.{memory_sound, input_off, faults_of, refusal_of}
+use Rattle.line.specs.Tallying.{Out}
+use Rattle.line.specs.Step.{accepted, refused, unless_refused, step_of}
 use Rattle.line.specs.declared.line.Line.{Line}
 
 pub record Accepted (l : Line) (count : ℕ) (a : Settings) (ts : List ℤ) (e : Event) : Type 0 where
+  pub passed : refusal_of l count a ts e ≡ None
   pub sound : memory_sound l count a ts e ≡ true
   pub ranged : event_ranged e ≡ true
-  pub status : status_refusal l.status e ≡ 0
+  pub running : refused_running l.status e ≡ false
+  pub emergency : refused_in_emergency l.status e ≡ false
+  pub paused : refused_paused l.status e ≡ false
   pub agrees : event_agrees e ≡ true
   pub safe : run_unsafe (input_off l) e ≡ false
   pub free : run_occupied l.status a.nearzero l.last.gross e ≡ false
   pub chance : nothing_to_cancel (no_chance l.undo) e ≡ false
 
-pub accepted_tells : (l : Line) (count : ℕ) (a : Settings) (ts : List ℤ) (e : Event) → refusal_of l count a ts e ≡ 0 → Accepted l count a ts e
+pub accepted_tells : (l : Line) (count : ℕ) (a : Settings) (ts : List ℤ) (e : Event) → refusal_of l count a ts e ≡ None → Accepted l count a ts e
 unfolding refusal_of
 accepted_tells l count a ts e h =
     let n = none-holds (faults_of l count a ts e) h in
     record {
+      passed = h;
       sound = not-false _ n.memory;
       ranged = not-false _ n.value;
-      status = status-passed l.status e n.status n.emergency n.paused;
+      running = n.running;
+      emergency = n.emergency;
+      paused = n.paused;
       agrees = not-false _ n.contradiction;
       safe = n.safety;
       free = n.occupied;
       chance = n.nothing;
     }
+
+-- to show a thing of what an event gives, show it of both
+pub step_ind : (P : Out → Type 0) (l : Line) (count : ℕ) (a : Settings) (ts : List ℤ) (e : Event)
+    → (Accepted l count a ts e → P (accepted l a ts e))
+    → ((r : Refusal) → refusal_of l count a ts e ≡ Some r → P (refused l ts r))
+    → P (step_of l count a ts e)
+unfolding step_of
+step_ind P l count a ts e goes stays = by_refusal (refusal_of l count a ts e) refl
+  where
+    by_refusal : (r : Option Refusal) → refusal_of l count a ts e ≡ r → P (unless_refused r l a ts e)
+    by_refusal None h = goes (accepted_tells l count a ts e h)
+    by_refusal (Some r) h = stays r h
+
+-- a refusal has a number
+pub numbered : (r : Refusal) → eqb (number_of r) 0 ≡ false
+numbered refusal.Memory = refl
+numbered refusal.Form = refl
+numbered refusal.Value = refl
+numbered refusal.Status = refl
+numbered refusal.Emergency = refl
+numbered refusal.Paused = refl
+numbered refusal.Contradiction = refl
+numbered refusal.Safety = refl
+numbered refusal.Occupied = refl
+numbered refusal.Nothing = refl
 
 -- the memory is sound
 pub record Sound (l : Line) (count : ℕ) (a : Settings) (ts : List ℤ) (e : Event) : Type 0 where
@@ -71,7 +108,10 @@ sound_tells l count a ts e h =
     }
 
 -- what an accepted sample gives to its method
-pub sample-given : (l : Line) (count : ℕ) (a : Settings) (ts : List ℤ) (s : sample.Sample) → Accepted l count a ts (Sample s)
+pub sample_given : (l : Line) (count : ℕ) (a : Settings) (ts : List ℤ) (e : Event) (s : sample.Sample) → refusal_of l count a ts e ≡ None → e ≡ Sample s
     → (line_fit l ≡ true) × (record_fit a ≡ true) × (sample_ranged s ≡ true)
 unfolding event_ranged reads_record
-sample-given l count a ts s h = let m = sound_tells l count a ts (Sample s) h.sound in (m.line, m.active, h.ranged)
+sample_given l count a ts e s h is =
+    let y = accepted_tells l count a ts (Sample s) (rw is at h) in
+    let m = sound_tells l count a ts (Sample s) y.sound in
+    (m.line, m.active, y.ranged)

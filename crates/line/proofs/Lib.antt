@@ -7,4 +7,4 @@ pub mod Signals
 pub mod Sorting
 pub mod Bench
 pub mod Left
-pub mod Stores
+pub mod Flags

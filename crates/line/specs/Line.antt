@@ -55,145 +55,28 @@ fresh_line =
 -- ---- the line with a part anew
 
 abbrev pub with_status : Line → ℕ → ℕ → Line
-with_status l s e =
-    record {
-      status = s;
-      error = e;
-      code = l.code;
-      setup = l.setup;
-      sensor = l.sensor;
-      last = l.last;
-      foreign = l.foreign;
-      item = l.item;
-      sorters = l.sorters;
-      undo = l.undo;
-      bench = l.bench;
-    }
+with_status l s e = record l { status = s; error = e }
 
 abbrev pub with_code : Line → ℕ → Line
-with_code l c =
-    record {
-      status = l.status;
-      error = l.error;
-      code = c;
-      setup = l.setup;
-      sensor = l.sensor;
-      last = l.last;
-      foreign = l.foreign;
-      item = l.item;
-      sorters = l.sorters;
-      undo = l.undo;
-      bench = l.bench;
-    }
+with_code l c = record l { code = c }
 
 abbrev pub with_setup : Line → Setup → Line
-with_setup l s =
-    record {
-      status = l.status;
-      error = l.error;
-      code = l.code;
-      setup = s;
-      sensor = l.sensor;
-      last = l.last;
-      foreign = l.foreign;
-      item = l.item;
-      sorters = l.sorters;
-      undo = l.undo;
-      bench = l.bench;
-    }
+with_setup l s = record l { setup = s }
 
 abbrev pub with_sensed : Line → Sensor → Last → Line
-with_sensed l s k =
-    record {
-      status = l.status;
-      error = l.error;
-      code = l.code;
-      setup = l.setup;
-      sensor = s;
-      last = k;
-      foreign = l.foreign;
-      item = l.item;
-      sorters = l.sorters;
-      undo = l.undo;
-      bench = l.bench;
-    }
+with_sensed l s k = record l { sensor = s; last = k }
 
 abbrev pub with_foreign : Line → Foreign → Line
-with_foreign l f =
-    record {
-      status = l.status;
-      error = l.error;
-      code = l.code;
-      setup = l.setup;
-      sensor = l.sensor;
-      last = l.last;
-      foreign = f;
-      item = l.item;
-      sorters = l.sorters;
-      undo = l.undo;
-      bench = l.bench;
-    }
+with_foreign l f = record l { foreign = f }
 
 abbrev pub with_item : Line → Item → Line
-with_item l i =
-    record {
-      status = l.status;
-      error = l.error;
-      code = l.code;
-      setup = l.setup;
-      sensor = l.sensor;
-      last = l.last;
-      foreign = l.foreign;
-      item = i;
-      sorters = l.sorters;
-      undo = l.undo;
-      bench = l.bench;
-    }
+with_item l i = record l { item = i }
 
 abbrev pub with_sorters : Line → List Sorter → Line
-with_sorters l ss =
-    record {
-      status = l.status;
-      error = l.error;
-      code = l.code;
-      setup = l.setup;
-      sensor = l.sensor;
-      last = l.last;
-      foreign = l.foreign;
-      item = l.item;
-      sorters = ss;
-      undo = l.undo;
-      bench = l.bench;
-    }
+with_sorters l ss = record l { sorters = ss }
 
 abbrev pub with_undo : Line → Undo → Line
-with_undo l u =
-    record {
-      status = l.status;
-      error = l.error;
-      code = l.code;
-      setup = l.setup;
-      sensor = l.sensor;
-      last = l.last;
-      foreign = l.foreign;
-      item = l.item;
-      sorters = l.sorters;
-      undo = u;
-      bench = l.bench;
-    }
+with_undo l u = record l { undo = u }
 
 abbrev pub with_bench : Line → Bench → Line
-with_bench l b =
-    record {
-      status = l.status;
-      error = l.error;
-      code = l.code;
-      setup = l.setup;
-      sensor = l.sensor;
-      last = l.last;
-      foreign = l.foreign;
-      item = l.item;
-      sorters = l.sorters;
-      undo = l.undo;
-      bench = b;
-    }
+with_bench l b = record l { bench = b }

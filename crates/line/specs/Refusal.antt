@@ -1,10 +1,11 @@
 -- 01, "Refusal numbers of the manual's kind": when each condition of the table holds.
-use Rattle.std.specs.Prelude.{ℕ, Bool, false, ◌&&◌, ◌||◌, not, List, eqb, ℤ}
-use Rattle.laws.specs.Choice.{when◌then◌else◌}
+use Rattle.std.specs.Prelude.{ℕ, Bool, false, ◌&&◌, ◌||◌, not, List, ℤ, Option}
 use Rattle.mask.specs.Bits.{lowest_off}
-use Rattle.refusal.specs.Table.{safety_no, table, first_holding}
-use Rattle.refusal.specs.Rows.{lengths_wrong, reads_record, reads_tally, status_refusal, run_unsafe, run_occupied, nothing_to_cancel}
+use Rattle.refusal.specs.Table.{table, first_holding}
+use Rattle.refusal.specs.Rows.{lengths_wrong, reads_record, reads_tally, refused_running, refused_in_emergency, refused_paused, run_unsafe, run_occupied, nothing_to_cancel}
 use Rattle.refusal.specs.declared.Faults.{Faults}
+use Rattle.refusal.specs.declared.Refusal.{Refusal}
+use Rattle.refusal.specs.declared.Refusal.TheVariants.{Safety}
 use Rattle.settings.specs.Settings.{record_fit}
 use Rattle.settings.specs.declared.Settings.{Settings}
 use Rattle.event.specs.Event.{event_ranged, event_agrees}
@@ -31,17 +32,20 @@ faults_of l count a ts e =
       memory = not (memory_sound l count a ts e);
       form = false;
       value = not (event_ranged e);
-      status = status_refusal l.status e;
+      running = refused_running l.status e;
+      emergency = refused_in_emergency l.status e;
+      paused = refused_paused l.status e;
       contradiction = not (event_agrees e);
       safety = run_unsafe (input_off l) e;
       occupied = run_occupied l.status a.nearzero l.last.gross e;
       nothing = nothing_to_cancel (no_chance l.undo) e;
     }
 
--- the refusal of an event, 0 if it is accepted
-unfoldable pub refusal_of : Line → ℕ → Settings → List ℤ → Event → ℕ
+-- the refusal of an event, none if it is accepted
+unfoldable pub refusal_of : Line → ℕ → Settings → List ℤ → Event → Option Refusal
 refusal_of l count a ts e = first_holding (table (faults_of l count a ts e))
 
 -- "input is the number of the lowest required input that is off (0 but for 5)"
-unfoldable pub input_of : Line → ℕ → ℕ
-input_of l number = when eqb number safety_no then input_off l else 0
+unfoldable pub input_of : Line → Refusal → ℕ
+input_of l Safety = input_off l
+input_of l r = 0

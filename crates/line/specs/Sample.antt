@@ -87,7 +87,7 @@ step6 l t = after_weighing l t.active (weighed l.item l.setup t.gross)
 
 -- the effect with a box detected: a new item in hand on this line
 unfoldable pub box_taken : Effect → Line → Effect
-box_taken e l = record { line = with_item l (new_item l.setup); detected = 1; outcome = e.outcome; net = e.net }
+box_taken e l = record e { line = with_item l (new_item l.setup); detected = 1 }
 
 -- "detected. With an item in hand, both become one two-on verdict and nothing is in hand."
 unfoldable pub detecting : Effect → Effect

@@ -1,12 +1,11 @@
 -- 01: what each of the twelve kinds of event does when accepted, and an event as a whole.
-use Rattle.std.specs.Prelude.{ℕ, List, eqb, ℤ, length}
-use Rattle.laws.specs.Choice.{when◌then◌else◌}
+use Rattle.std.specs.Prelude.{ℕ, List, ℤ, length, Option, Some, None, Err}
 use Rattle.settings.specs.declared.Settings.{Settings}
-use Rattle.event.specs.Reply.{no_error}
+use Rattle.event.specs.Reply.{Reply, no_error}
 use Rattle.event.specs.declared.Event.{Event}
 use Rattle.event.specs.declared.Event.TheVariants.{Sample, Run, Stop, Emergency, Recall, Cancel, ClearCode, ClearAll, ErrorReset, NoOperation, Setup, Store}
-use Rattle.event.specs.declared.reply.Reply.{Reply}
-use Rattle.event.specs.declared.reply.Reply.TheVariants.{Refused}
+use Rattle.refusal.specs.Table.{number_of}
+use Rattle.refusal.specs.declared.Refusal.{Refusal}
 use Rattle.line.specs.Line.{with_status, with_setup}
 use Rattle.line.specs.State.{State, active_of}
 use Rattle.line.specs.Effect.{plain, replied}
@@ -16,11 +15,10 @@ use Rattle.line.specs.Storing.{stored}
 use Rattle.line.specs.Tallying.{Out, untallied, recorded, cancelled, recalled, cleared_one, cleared_all}
 use Rattle.line.specs.Refusal.{refusal_of, input_of}
 use Rattle.line.specs.declared.line.Line.{Line}
-use Rattle.line.specs.declared.storing.Storing.TheVariants.{Nothing, Record}
 
 -- "replaces one code's settings"
 abbrev pub storing : Line → List ℤ → ℕ → Settings → Out
-storing l ts c s = record { line = l; storing = Record c s; tallies = ts; reply = replied (plain l) 0 }
+storing l ts c s = record { line = l; storing = Some (record { code = c; settings = s }); tallies = ts; reply = replied (plain l) 0 }
 
 -- an accepted event; a is the active code's record
 unfoldable pub accepted : Line → Settings → List ℤ → Event → Out
@@ -38,11 +36,13 @@ accepted l a ts (Setup s) = untallied (plain (with_setup l s)) ts
 accepted l a ts (Store c s) = storing l ts c s
 
 -- "The reply has the number and input .. Nothing else alters."
-abbrev pub refused : Line → List ℤ → ℕ → Out
-refused l ts number = record { line = l; storing = Nothing; tallies = ts; reply = Refused number (input_of l number) }
+abbrev pub refused : Line → List ℤ → Refusal → Out
+refused l ts r =
+    record { line = l; storing = None; tallies = ts; reply = Err (record { number = number_of r; input = input_of l r }) }
 
-abbrev pub unless_refused : ℕ → Line → Settings → List ℤ → Event → Out
-unless_refused number l a ts e = when eqb number 0 then accepted l a ts e else refused l ts number
+abbrev pub unless_refused : Option Refusal → Line → Settings → List ℤ → Event → Out
+unless_refused None l a ts e = accepted l a ts e
+unless_refused (Some r) l a ts e = refused l ts r
 
 -- an event on a line and its tallies, where count records are lent and a is the active one
 unfoldable pub step_of : Line → ℕ → Settings → List ℤ → Event → Out

@@ -1,19 +1,9 @@
 -- "Store (not while running) replaces one code's settings".
-use Rattle.std.specs.Prelude.{ℕ, List, set}
+use Rattle.std.specs.Prelude.{List, set, Option, Some, None}
 use Rattle.settings.specs.declared.Settings.{Settings}
-use Rattle.line.specs.declared.storing.Storing.{Storing}
-use Rattle.line.specs.declared.storing.Storing.TheVariants.{Nothing, Record}
+use Rattle.line.specs.declared.stored.Stored.{Stored}
 
 -- the settings records after an event that stores this
-abbrev pub stored : List Settings → Storing → List Settings
-stored ss Nothing = ss
-stored ss (Record c s) = set ss c s
-
--- the same as one write to the records, of which there are count: past the end it changes nothing
-unfoldable pub place_of : Storing → ℕ → ℕ
-place_of Nothing count = count
-place_of (Record c s) count = c
-
-unfoldable pub record_of : Storing → Settings → Settings
-record_of Nothing any = any
-record_of (Record c s) any = s
+abbrev pub stored : List Settings → Option Stored → List Settings
+stored ss None = ss
+stored ss (Some x) = set ss x.code x.settings

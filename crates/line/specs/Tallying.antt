@@ -1,23 +1,22 @@
 -- 01: how verdicts, cancel and the clears change the tallies and the chance to cancel.
-use Rattle.std.specs.Prelude.{ℕ, List, eqb, ℤ, length}
+use Rattle.std.specs.Prelude.{ℕ, List, eqb, ℤ, length, Option, None}
 use Rattle.laws.specs.Choice.{when◌then◌else◌}
 use Rattle.tally.specs.Tally.{is_verdict}
 use Rattle.part.specs.Part.{empty_part}
 use Rattle.tallies.specs.Memory.{written, zeros}
-use Rattle.event.specs.declared.reply.Reply.{Reply}
+use Rattle.event.specs.Reply.{Reply}
 use Rattle.undo.specs.Undo.{nothing, kept_of, noted_in, put_back}
 use Rattle.line.specs.Line.{with_code, with_undo}
 use Rattle.line.specs.Effect.{plain, replied}
 use Rattle.line.specs.declared.line.Line.{Line}
 use Rattle.line.specs.declared.effect.Effect.{Effect}
 use Rattle.line.specs.declared.step.Step.{Step}
-use Rattle.line.specs.declared.storing.Storing.{Storing}
-use Rattle.line.specs.declared.storing.Storing.TheVariants.{Nothing}
+use Rattle.line.specs.declared.stored.Stored.{Stored}
 
 -- what an event hands back: the next line, what it stores, the tallies and the reply
 pub record Out : Type 0 where
   pub line : Line
-  pub storing : Storing
+  pub storing : Option Stored
   pub tallies : List ℤ
   pub reply : Reply
 
@@ -27,7 +26,7 @@ step_in o = record { line = o.line; reply = o.reply; storing = o.storing }
 
 -- an effect that stores and tallies nothing
 abbrev pub untallied : Effect → List ℤ → Out
-untallied e ts = record { line = e.line; storing = Nothing; tallies = ts; reply = replied e 0 }
+untallied e ts = record { line = e.line; storing = None; tallies = ts; reply = replied e 0 }
 
 -- a verdict is tallied under the active code, with the target of its settings, and what stood there before it is kept; where it is given but not tallied, there is nothing to cancel
 unfoldable pub noted : Effect → ℤ → List ℤ → Out
@@ -35,7 +34,7 @@ noted e target ts =
     let u = kept_of ts e.line.code e.outcome e.net target in
     record {
       line = with_undo e.line u;
-      storing = Nothing;
+      storing = None;
       tallies = noted_in ts e.line.code e.outcome e.net target;
       reply = replied e u.chance;
     }

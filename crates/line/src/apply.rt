@@ -1,5 +1,5 @@
 // The twelve events on the line, and the one way to apply them.
-ghost use Rattle.std.specs.Prelude.{◌≡◌, true, false, []};
+ghost use Rattle.std.specs.Prelude.{◌≡◌, true, false, [], None};
 ghost use Rattle.settings.specs.Settings.{record_fit};
 ghost use Rattle.event.specs.Kind.{is_sample};
 ghost use Rattle.event.specs.Sample.{sample_ranged};
@@ -12,14 +12,15 @@ ghost use Rattle.line.specs.Command.{ran, stopping, alarmed};
 ghost use Rattle.line.specs.Tallying.{step_in, untallied, recorded, cancelled, recalled, code_cleared, cleared_one, cleared_all};
 ghost use Rattle.line.specs.Refusal.{refusal_of};
 ghost use Rattle.line.specs.State.{state};
-ghost use Rattle.line.specs.Step.{storing, accepted, step_of, out_on, step_on};
+ghost use Rattle.line.specs.Step.{storing, accepted, refused, step_of, out_on, step_on};
 
 use crate::effect::Effect;
 use crate::line::Line;
 use crate::step::Step;
-use crate::storing::Storing;
-use event::{Event, Reply, Sample, Setup};
+use crate::stored::Stored;
+use event::{Event, Refused, Sample, Setup};
 use part::Classes;
+use refusal::Refusal;
 use settings::Settings;
 use tally::Tally;
 use undo::Undo;
@@ -76,7 +77,7 @@ impl Line {
         Step {
             line: self,
             reply: reply,
-            storing: Storing::Record(code, settings),
+            storing: Some(Stored { code, settings }),
         }
     }
 }
@@ -95,12 +96,12 @@ impl Line {
         ensures answer { result ≡ step_in (cancelled self tallies.old) }
         ensures memory { tallies.new ≡ (cancelled self tallies.old).tallies }
     {
-        let undo = self.undo;
-        undo.put_back(tallies, self.code);
+        self.undo.put_back(tallies, self.code);
         Effect::plain(self.with_undo(Undo::nothing())).untallied()
     }
 
     // Clearing the active code ends the chance to cancel.
+    #[tactic(auto, unfolding(crate::specs::Tallying::code_cleared))]
     fn code_cleared(self, code: u64) -> Line
         ensures { result ≡ code_cleared self code }
     {
@@ -129,6 +130,7 @@ impl Line {
 
 impl Line {
     // Any event but a sample.
+    #[tactic(auto, unfolding(crate::specs::Step::accepted))]
     fn commanded(self, active: Settings, tallies: &mut [i64], e: Event) -> Step
         requires { is_sample e ≡ false }
         ensures answer { result ≡ step_in (accepted self active tallies.old e) }
@@ -151,8 +153,9 @@ impl Line {
     }
 
     // A sample comes first: its path is then compiled without the others.
+    #[tactic(auto, unfolding(crate::specs::Step::accepted))]
     fn accepted(self, count: u64, active: Settings, tallies: &mut [i64], e: Event) -> Step
-        requires { refusal_of self count active tallies.old e ≡ 0 }
+        requires { refusal_of self count active tallies.old e ≡ None }
         ensures answer { result ≡ step_in (accepted self active tallies.old e) }
         ensures memory { tallies.new ≡ (accepted self active tallies.old e).tallies }
     {
@@ -162,23 +165,30 @@ impl Line {
         self.commanded(active, tallies, e)
     }
 
+    // Refused, an event changes nothing.
+    fn refused(self, refusal: Refusal) -> Step
+        ensures { result ≡ step_in (refused self [] refusal) }
+    {
+        let refused = Refused {
+            number: refusal.number(),
+            input: self.input(refusal),
+        };
+        Step {
+            line: self,
+            reply: Err(refused),
+            storing: None,
+        }
+    }
+
     // The flat core: an event on the line and its tallies, where `count` settings records are lent and `active` is the active
-    // code's. Refused, it changes nothing; accepted, it gives the next line, and a verdict, a cancel or a clear changes tallies.
+    // code's. Accepted, it gives the next line, and a verdict, a cancel or a clear changes tallies.
+    #[tactic(auto, unfolding(crate::specs::Step::step_of))]
     fn step(self, count: u64, active: Settings, tallies: &mut [i64], e: Event) -> Step
         ensures answer { result ≡ step_in (step_of self count active tallies.old e) }
         ensures memory { tallies.new ≡ (step_of self count active tallies.old e).tallies }
     {
-        let number = self.refusal(count, active, &*tallies, e);
-        if number != 0 {
-            let reply = Reply::Refused {
-                number: number,
-                input: self.input(number),
-            };
-            return Step {
-                line: self,
-                reply: reply,
-                storing: Storing::Nothing,
-            };
+        if let Some(refusal) = self.refusal(count, active, &*tallies, e) {
+            return self.refused(refusal);
         }
         self.accepted(count, active, tallies, e)
     }
@@ -194,9 +204,9 @@ impl Line {
         let code = self.active_code();
         let active = records::read(records, code);
         let step = self.step(count, active, tallies, e);
-        let place = step.place(count);
-        let record = step.record(active);
-        records::write(records, place, record);
+        if let Some(stored) = step.storing {
+            records::write(records, stored.code, stored.settings);
+        }
         step
     }
 }

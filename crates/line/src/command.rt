@@ -6,17 +6,18 @@ use crate::effect::Effect;
 use crate::line::Line;
 
 impl Line {
+    #[tactic(auto, unfolding(crate::specs::Command::ran))]
     pub(crate) fn ran(self) -> Effect
         ensures { result ≡ ran self }
     {
-        let bench = self.bench;
-        let next = bench.begun(self.status == Line::STOPPED);
+        let bench = self.bench.begun(self.status == Line::STOPPED);
         Effect::plain(
             self.with_status(Line::RUNNING, Line::NO_ERROR)
-                .with_bench(next),
+                .with_bench(bench),
         )
     }
 
+    #[tactic(auto, unfolding(crate::specs::Command::stopping))]
     pub(crate) fn stopping(self) -> Effect
         ensures { result ≡ stopping self }
     {
@@ -29,6 +30,7 @@ impl Line {
         self.halting(Line::STOPPED)
     }
 
+    #[tactic(auto, unfolding(crate::specs::Command::alarmed))]
     pub(crate) fn alarmed(self) -> Effect
         ensures { result ≡ alarmed self }
     {

@@ -5,27 +5,21 @@ ghost use Rattle.line.specs.Refusal.{memory_sound, input_off, refusal_of, input_
 use crate::line::Line;
 use event::Event;
 use refusal::{
-    Faults, lengths_wrong, nothing_to_cancel, reads_record, reads_tally, run_occupied, run_unsafe,
-    status_refusal,
+    Faults, Refusal, lengths_wrong, nothing_to_cancel, reads_record, reads_tally,
+    refused_in_emergency, refused_paused, refused_running, run_occupied, run_unsafe,
 };
 use settings::Settings;
 
 impl Line {
     // 8 memory does not hold.
+    #[tactic(auto, unfolding(crate::specs::Refusal::memory_sound))]
     fn memory_sound(self, count: u64, active: Settings, tallies: &[i64], e: Event) -> bool
         ensures { result ≡ memory_sound self count active tallies.now e }
     {
-        if lengths_wrong(count, tallies) {
-            return false;
-        }
-        if !self.fit() {
-            return false;
-        }
-        let record_sound = !reads_record(e) | active.fit();
-        if reads_tally(e) {
-            return record_sound & tallies::fit_at(tallies, self.code);
-        }
-        record_sound
+        !lengths_wrong(count, tallies)
+            && self.fit()
+            && (!reads_record(e) || active.fit())
+            && (!reads_tally(e) || tallies::fit_at(tallies, self.code))
     }
 
     // The lowest required input that is off in the last sample.
@@ -35,44 +29,48 @@ impl Line {
         mask::lowest_off(self.setup.need, self.last.safety)
     }
 
-    // 0 if the event is accepted. Of a sample only two conditions can hold, and most events are samples.
-    pub(crate) fn refusal(self, count: u64, active: Settings, tallies: &[i64], e: Event) -> u64
+    // Of a sample only two conditions can hold, and most events are samples.
+    #[tactic(auto, unfolding(crate::specs::Refusal::refusal_of))]
+    pub(crate) fn refusal(
+        self,
+        count: u64,
+        active: Settings,
+        tallies: &[i64],
+        e: Event,
+    ) -> Option<Refusal>
         ensures { result ≡ refusal_of self count active tallies.now e }
     {
         let sound = self.memory_sound(count, active, tallies, e);
         if let Event::Sample(s) = e {
-            let faults = Faults {
-                memory: !sound,
-                form: false,
-                value: !s.ranged(),
-                status: 0,
-                contradiction: false,
-                safety: false,
-                occupied: false,
-                nothing: false,
-            };
-            return faults.number();
+            if !sound {
+                return Some(Refusal::Memory);
+            }
+            if !s.ranged() {
+                return Some(Refusal::Value);
+            }
+            return None;
         }
-        let last = self.last;
-        let undo = self.undo;
         let faults = Faults {
             memory: !sound,
             form: false,
             value: !e.ranged(),
-            status: status_refusal(self.status, e),
+            running: refused_running(self.status, e),
+            emergency: refused_in_emergency(self.status, e),
+            paused: refused_paused(self.status, e),
             contradiction: !e.agrees(),
             safety: run_unsafe(self.input_off(), e),
-            occupied: run_occupied(self.status, active.nearzero, last.gross, e),
-            nothing: nothing_to_cancel(undo.is_nothing(), e),
+            occupied: run_occupied(self.status, active.nearzero, self.last.gross, e),
+            nothing: nothing_to_cancel(self.undo.is_nothing(), e),
         };
-        faults.number()
+        faults.first()
     }
 
     // The lowest required input that is off, for refusal 5 alone.
-    pub(crate) fn input(self, number: u64) -> u64
-        ensures { result ≡ input_of self number }
+    #[tactic(auto, unfolding(crate::specs::Refusal::input_of))]
+    pub(crate) fn input(self, refusal: Refusal) -> u64
+        ensures { result ≡ input_of self refusal }
     {
-        if number == refusal::SAFETY {
+        if refusal == Refusal::Safety {
             return self.input_off();
         }
         0

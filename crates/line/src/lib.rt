@@ -9,11 +9,11 @@ mod fit;
 mod line;
 mod sample;
 mod step;
-mod storing;
+mod stored;
 mod tallying;
 mod verdict;
 
 pub use effect::Effect;
 pub use line::Line;
 pub use step::Step;
-pub use storing::Storing;
+pub use stored::Stored;

@@ -16,8 +16,11 @@ use undo::Undo;
 // What stands behind the item is copied with the seven bytes behind its tag, as a block: so the undo and the bench stand before it.
 #[derive(Clone, Copy)]
 pub struct Line {
+    // 0 stopped, 1 running, 2 paused, 3 emergency; a number, as error is, since any line can be lent and an unfit one is refused
     pub status: u64,
+    // 0, 1, 2, 5, 6 or 7, or NO_ERROR
     pub error: u64,
+    // the active one, 0 to 99
     pub code: u64,
     pub setup: Setup,
     pub sensor: Sensor,
@@ -60,6 +63,7 @@ impl Line {
 
     pub const TO: u64 = Setup::TO;
 
+    #[tactic(auto, unfolding(crate::specs::Line::fresh_line))]
     pub fn fresh() -> Line
         ensures { result ≡ fresh_line }
     {
@@ -90,29 +94,27 @@ impl Line {
     }
 
     // An item is in hand, a queue isn't empty, or a sorter is on.
+    #[tactic(auto, unfolding(crate::specs::Line::busy))]
     pub(crate) fn busy(self) -> bool
         ensures { result ≡ busy self }
     {
-        let item = self.item;
-        let sorters = self.sorters;
-        item.in_hand() | any_sorting(sorters)
+        self.item.in_hand() | any_sorting(self.sorters)
     }
 
+    #[tactic(auto, unfolding(crate::specs::Line::conveyor))]
     pub(crate) fn conveyor(self) -> bool
         ensures { result ≡ conveyor self }
     {
-        let item = self.item;
-        conveyor_runs(self.status, self.setup.mode, item.in_hand())
+        conveyor_runs(self.status, self.setup.mode, self.item.in_hand())
     }
 
     // The reply's sorter field: while running, which sorters are on.
+    #[tactic(auto, unfolding(crate::specs::Line::sorter_field))]
     pub(crate) fn sorter_field(self) -> u64
         ensures { result ≡ sorter_field self }
     {
-        let sorters = self.sorters;
-        let bits = on_bits(sorters);
         if self.status == Line::RUNNING {
-            return bits;
+            return on_bits(self.sorters);
         }
         0
     }
@@ -161,30 +163,11 @@ impl Line {
         self
     }
 
-    // A field that is an enum is not stored to: the record is written anew.
-    pub(crate) fn with_item(self, item: Item) -> Line
+    pub(crate) fn with_item(mut self, item: Item) -> Line
         ensures { result ≡ with_item self item }
     {
-        let setup = self.setup;
-        let sensor = self.sensor;
-        let last = self.last;
-        let foreign = self.foreign;
-        let sorters = self.sorters;
-        let undo = self.undo;
-        let bench = self.bench;
-        Line {
-            status: self.status,
-            error: self.error,
-            code: self.code,
-            setup: setup,
-            sensor: sensor,
-            last: last,
-            foreign: foreign,
-            undo: undo,
-            bench: bench,
-            item: item,
-            sorters: sorters,
-        }
+        self.item = item;
+        self
     }
 
     pub(crate) fn with_undo(mut self, undo: Undo) -> Line

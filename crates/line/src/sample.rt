@@ -7,6 +7,7 @@ ghost use Rattle.line.specs.Sample.{Ready, step1, edge_made, foreign_rises, on_b
 
 use crate::effect::Effect;
 use crate::line::Line;
+use crate::verdict::TWO_ON;
 use event::{Last, Sample, Setup};
 use item::{Item, Weighed, new_item};
 use settings::Settings;
@@ -23,6 +24,7 @@ pub(crate) struct Tick {
 }
 
 // Edge 1 is off to on, edge 2 on to off.
+#[tactic(auto, unfolding(crate::specs::Sample::edge_made))]
 fn edge_made(edge: u64, before: u64, after: u64) -> bool
     ensures { result ≡ edge_made edge before after }
 {
@@ -33,6 +35,7 @@ fn edge_made(edge: u64, before: u64, after: u64) -> bool
 }
 
 impl Line {
+    #[tactic(auto, unfolding(crate::specs::Sample::foreign_rises))]
     fn foreign_rises(self, s: Sample) -> bool
         ensures { result ≡ foreign_rises self s }
     {
@@ -40,11 +43,11 @@ impl Line {
     }
 
     // The sample is kept as the last, and the sensor settles, running or not.
+    #[tactic(auto, unfolding(crate::specs::Sample::step1))]
     fn step1(self, s: Sample) -> Line
         ensures { result ≡ step1 self s }
     {
-        let sensor = self.sensor;
-        let settled = sensor.settled(self.setup.tc, s.sensor);
+        let settled = self.sensor.settled(self.setup.tc, s.sensor);
         let last = Last {
             gross: s.gross,
             safety: s.safety,
@@ -54,116 +57,54 @@ impl Line {
     }
 
     // In bench mode a running tick's gross is kept, and up to nearzero it arms.
+    #[tactic(auto, unfolding(crate::specs::Sample::on_bench))]
     fn on_bench(self, tick: Tick) -> Line
         ensures { result ≡ on_bench self tick }
     {
         if self.setup.mode != Setup::BENCH {
             return self;
         }
-        let bench = self.bench;
-        let next = bench.ticked(tick.gross, tick.active.nearzero);
-        self.with_bench(next)
+        self.with_bench(self.bench.ticked(tick.gross, tick.active.nearzero))
     }
 
     // The sorters' times.
+    #[tactic(auto, unfolding(crate::specs::Sample::step4))]
     fn step4(self) -> Line
         ensures { result ≡ step4 self }
     {
-        let sorters = self.sorters;
-        let setup = self.setup;
-        let next = all_ticked(sorters, setup);
-        self.with_sorters(next)
+        self.with_sorters(all_ticked(self.sorters, self.setup))
     }
 
     // The foreign signals under way.
+    #[tactic(auto, unfolding(crate::specs::Sample::step5))]
     fn step5(self, tick: Tick) -> Line
         ensures { result ≡ step5 self tick }
     {
-        let foreign = self.foreign;
-        let next = foreign.ticked(tick.rises, self.setup.tf);
-        self.with_foreign(next)
+        self.with_foreign(self.foreign.ticked(tick.rises, self.setup.tf))
     }
 
     // The item in hand is weighed, and judged on its last tick.
+    #[tactic(auto, unfolding(crate::specs::Sample::step6, crate::specs::Sample::after_weighing))]
     fn step6(self, tick: Tick) -> Effect
         requires { Ready self tick }
         ensures { result ≡ step6 self tick }
     {
-        let item = self.item;
-        let setup = self.setup;
-        let weighed = item.weighed(setup, tick.gross);
-        match weighed {
+        match self.item.weighed(self.setup, tick.gross) {
             Weighed::Still(i) => Effect::plain(self.with_item(i)),
             Weighed::Mean(m) => self.with_item(Item::None).judged(tick.active, m),
         }
     }
 
-    // A box is detected: in bench mode by its weight, else by the sensor.
-    fn step7(e: Effect, tick: Tick) -> Effect
-        ensures { result ≡ step7 e tick }
-    {
-        let line = e.line;
-        if line.status != Line::RUNNING {
-            return e;
-        }
-        if line.setup.mode == Setup::BENCH {
-            return Line::by_hand(e, tick);
-        }
-        if tick.made {
-            return Line::detecting(e);
-        }
-        e
-    }
-
-    // The effect with a new item in hand on this line.
-    fn box_taken(e: Effect, line: Line) -> Effect
-        ensures { result ≡ box_taken e line }
-    {
-        let setup = line.setup;
-        let next = line.with_item(new_item(setup));
-        Effect {
-            line: next,
-            detected: 1,
-            outcome: e.outcome,
-            net: e.net,
-        }
-    }
-
-    // With nothing in hand an armed line detects a box that lies still, and is disarmed.
-    fn by_hand(e: Effect, tick: Tick) -> Effect
-        ensures { result ≡ by_hand e tick }
-    {
-        let line = e.line;
-        let item = line.item;
-        let bench = line.bench;
-        if !item.in_hand() & bench.detects(tick.gross, tick.active.nearzero) {
-            let next = line.with_bench(bench.disarmed());
-            return Line::box_taken(e, next);
-        }
-        e
-    }
-
-    // A detected box, alone or with one in hand.
-    fn detecting(e: Effect) -> Effect
-        ensures { result ≡ detecting e }
-    {
-        let line = e.line;
-        let item = line.item;
-        if item.in_hand() {
-            return line.with_item(Item::None).given(1, 7, 0);
-        }
-        Line::box_taken(e, line)
-    }
-
     // The level rose with as many signals carried as can be.
+    #[tactic(auto, unfolding(crate::specs::Sample::ninth_signal))]
     fn ninth_signal(self, tick: Tick) -> bool
         ensures { result ≡ ninth_signal self tick }
     {
-        let foreign = self.foreign;
-        tick.rises & foreign.eight_carried()
+        tick.rises & self.foreign.eight_carried()
     }
 
     // Steps 4 to 7; a ninth signal ends them behind 5.
+    #[tactic(auto, unfolding(crate::specs::Sample::running_tick, crate::specs::Sample::unless_ninth, crate::specs::Sample::on_bench, crate::specs::Sample::step4, crate::specs::Sample::step5))]
     fn running_tick(self, tick: Tick) -> Effect
         requires { Ready self tick }
         ensures { result ≡ running_tick self tick }
@@ -173,9 +114,10 @@ impl Line {
         if ninth {
             return Effect::plain(next.with_status(Line::PAUSED, status::NINTH_SIGNAL));
         }
-        Line::step7(next.step6(tick), tick)
+        next.step6(tick).step7(tick)
     }
 
+    #[tactic(auto, unfolding(crate::specs::Sample::sampled, crate::specs::Sample::from_step3, crate::specs::Sample::step2, crate::specs::Effect::halting, crate::specs::Effect::halted, crate::specs::Sample::step3, crate::specs::Sample::guarded, crate::specs::Sample::step1))]
     pub(crate) fn sampled(self, active: Settings, s: Sample) -> Effect
         requires { (line_fit self ≡ true) × (record_fit active ≡ true) × (sample_ranged s ≡ true) }
         ensures { result ≡ sampled self active s }
@@ -196,10 +138,67 @@ impl Line {
             return Effect::plain(next.with_status(Line::PAUSED, status::UNSAFE));
         }
         next.running_tick(Tick {
-            active: active,
+            active,
             gross: s.gross,
-            rises: rises,
-            made: made,
+            rises,
+            made,
         })
+    }
+}
+
+// Step 7.
+impl Effect {
+    // A box is detected: in bench mode by its weight, else by the sensor.
+    #[tactic(auto, unfolding(crate::specs::Sample::step7, crate::specs::Sample::by_sensor))]
+    fn step7(self, tick: Tick) -> Effect
+        ensures { result ≡ step7 self tick }
+    {
+        if self.line.status != Line::RUNNING {
+            return self;
+        }
+        if self.line.setup.mode == Setup::BENCH {
+            return self.by_hand(tick);
+        }
+        if tick.made {
+            return self.detecting();
+        }
+        self
+    }
+
+    // The effect with a new item in hand on this line.
+    #[tactic(auto, unfolding(crate::specs::Sample::box_taken))]
+    fn box_taken(self, line: Line) -> Effect
+        ensures { result ≡ box_taken self line }
+    {
+        let next = line.with_item(new_item(line.setup));
+        Effect {
+            line: next,
+            detected: 1,
+            outcome: self.outcome,
+            net: self.net,
+        }
+    }
+
+    // With nothing in hand an armed line detects a box that lies still, and is disarmed.
+    #[tactic(auto, unfolding(crate::specs::Sample::by_hand))]
+    fn by_hand(self, tick: Tick) -> Effect
+        ensures { result ≡ by_hand self tick }
+    {
+        let line = self.line;
+        if !line.item.in_hand() & line.bench.detects(tick.gross, tick.active.nearzero) {
+            return self.box_taken(line.with_bench(line.bench.disarmed()));
+        }
+        self
+    }
+
+    // A detected box, alone or with one in hand.
+    #[tactic(auto, unfolding(crate::specs::Sample::detecting))]
+    fn detecting(self) -> Effect
+        ensures { result ≡ detecting self }
+    {
+        if self.line.item.in_hand() {
+            return self.line.with_item(Item::None).given(1, TWO_ON, 0);
+        }
+        self.box_taken(self.line)
     }
 }

@@ -1,12 +1,12 @@
 // What an event hands back.
 use crate::line::Line;
-use crate::storing::Storing;
+use crate::stored::Stored;
 use event::Reply;
 
-// The next line with the reply, and which settings record the event replaced.
+// The next line with the reply, and which settings record the event replaced, if any.
 #[derive(Clone, Copy)]
 pub struct Step {
     pub line: Line,
     pub reply: Reply,
-    pub storing: Storing,
+    pub storing: Option<Stored>,
 }

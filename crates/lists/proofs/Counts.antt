@@ -4,12 +4,11 @@ use mathlib.Core.List.{List, [], ◌∷◌}
 use Prim.Native.Nat.{ℕ, zero, suc, ◌+◌, ◌≤◌, ◌<◌}
 use native.Mathlib.Omega.{arith}
 use lib.Dec.{eqb}
-use lib.ListN.{length, get_or, drop}
+use lib.ListN.{length, get_or}
 use borrow.Author.Tests.{eq-eqb, ne_eqb, eqb-true, eqb-false}
 use Rattle.laws.specs.Choice.{bit}
 use Rattle.laws.proofs.Tests.{by_cases}
 use Rattle.lists.specs.Counts.{add_up, one_more, tab}
-use Rattle.lists.proofs.Each.{rest}
 
 -- ---- sums
 
@@ -24,11 +23,6 @@ unfolding add_up
 sum-one_more [] k h = absurd (omega arith)
 sum-one_more (x ∷ xs) zero h = omega arith
 sum-one_more (x ∷ xs) (suc k) h = omega (arith, sum-one_more xs k (omega arith))
-
--- what is left from place i on, one step further
-pub sum-rest : (l : List ℕ) (i : ℕ) → i < length l → add_up (drop i l) ≡ get_or l i 0 + add_up (drop (i + 1) l)
-unfolding add_up
-sum-rest l i h = rw (rest l i 0 h)
 
 -- ---- a list written out
 

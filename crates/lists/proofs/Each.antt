@@ -1,15 +1,15 @@
 -- Tests of a list, one place at a time, as loops walk it. Each law is over the test and the type of the elements, so that
 -- every loop cites the same. Assumes nothing.
 use mathlib.Core.Path.{◌≡◌, refl, sym, ap, ◌∙◌}
-use mathlib.Core.Bool.{Bool, true, false, ◌&&◌, ◌||◌, not}
+use mathlib.Core.Bool.{Bool, true, false, ◌&&◌, not}
 use mathlib.Core.List.{List, [], ◌∷◌, ◌++◌, map}
 use Prim.Native.Nat.compare
 use Prim.Native.Nat.{ℕ, zero, suc, ◌+◌, ◌≤◌, ◌<◌}
 use native.Mathlib.Omega.{arith}
 use native.Mathlib.Numerals.{add-one}
 use lib.Dec.{ltb}
-use lib.ListN.{length, get_or, take, drop, drop_of_length-le, length-take}
-use lib.Seq.{drop-cons, get_or-take, length-take-le}
+use lib.ListN.{length, get_or, take, drop, drop_of_length-le}
+use lib.Seq.{drop-cons}
 use borrow.Author.Tests.{lt-ltb}
 use Rattle.laws.specs.Choice.{bit}
 use Rattle.laws.proofs.Tests.{both, and_intro, if_ind, by_cases, never}
@@ -25,41 +25,9 @@ take_counted zero l = refl
 take_counted (suc n) [] = refl
 take_counted {A} (suc n) (x ∷ l) = ap (λ (k : List A). x ∷ k) (take_counted n l)
 
--- ---- the first n of a list, one place at a time
-
-module _ {A : Type 0} (n : ℕ) (l : List A) where
-  pub first_next : (i : ℕ) (d : A) → n ≤ length l → i < n → drop i (take n l) ≡ get_or l i d ∷ drop (i + 1) (take n l)
-  first_next i d h k =
-      let m : i < length (take n l) = omega (arith, length-take-le n l h) in
-      rw (rest (take n l) i d m, get_or-take n l i d k)
-
-  -- past the end none is left
-  pub first-end : drop n (take n l) ≡ []
-  first-end = drop_of_length-le (take n l) {i = n} (omega (arith, length-take n l))
-
--- ---- a test of the first n: of those the elements left decide. t is what the test of element i answered
+-- ---- a test of a list
 
 module _ {A : Type 0} (p : A → Bool) where
-  pub all-next :
-      (n : ℕ) (l : List A) (i : ℕ) (d : A) {t : Bool} → n ≤ length l → i < n → p (get_or l i d) ≡ t
-      → all_of p (drop i (take n l)) ≡ (t && all_of p (drop (i + 1) (take n l)))
-  unfolding all_of
-  all-next n l i d h k r = rw (first_next n l i d h k, r)
-
-  pub all_end : (n : ℕ) (l : List A) → all_of p (drop n (take n l)) ≡ true
-  unfolding all_of
-  all_end n l = rw (first-end n l)
-
-  pub any_next :
-      (n : ℕ) (l : List A) (i : ℕ) (d : A) {t : Bool} → n ≤ length l → i < n → p (get_or l i d) ≡ t
-      → any_of p (drop i (take n l)) ≡ (t || any_of p (drop (i + 1) (take n l)))
-  unfolding any_of
-  any_next n l i d h k r = rw (first_next n l i d h k, r)
-
-  pub any_end : (n : ℕ) (l : List A) → any_of p (drop n (take n l)) ≡ false
-  unfolding any_of
-  any_end n l = rw (first-end n l)
-
   -- one passes exactly where the number of those that pass is above 0
   pub one-counted : (l : List A) → ltb 0 (counted p l) ≡ any_of p l
   unfolding any_of counted

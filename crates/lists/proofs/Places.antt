@@ -26,14 +26,7 @@ module _ {A : Type 0} (n : ℕ) (d : A) where
       let m : n - length l ≡ suc (n - length (l ++ x ∷ [])) = omega (arith, length-append l (x ∷ [])) in
       rw (e, m) (first-free l (n - length (l ++ x ∷ [])) x)
 
-  -- the elements before place i copied
-  pub copy_next :
-      (l : List A) (i : ℕ) → i < length l → i < n
-      → set (in_places n d (take i l)) i (get_or l i d) ≡ in_places n d (take (i + 1) l)
-  copy_next l i h m =
-      rw (add-one, take-suc l i d h) (put_last (take i l) i (get_or l i d) (sym (length-take-le i l (omega arith))) m)
-
-  -- the same, each changed by g
+  -- the elements before place i copied, each changed by g
   pub change_next :
       (g : A → A) (l : List A) (i : ℕ) → i < length l → i < n
       → set (in_places n d (map g (take i l))) i (g (get_or l i d)) ≡ in_places n d (map g (take (i + 1) l))

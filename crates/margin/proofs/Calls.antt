@@ -1,20 +1,17 @@
 -- A call, line by line: a sample that joins the others, how lines are read, and what stands at the front of the output. Assumes nothing.
 use mathlib.Core.Path.{◌≡◌, ap, ◌∙◌}
-use mathlib.Core.List.{List, []}
+use mathlib.Core.List.{List}
 use Prim.Native.Nat.{ℕ, ◌≤◌}
 use native.Mathlib.Omega.{arith}
 use lib.IntN.{ℤ}
 use lib.ListN.{length, take}
 use Rattle.settings.specs.declared.Settings.{Settings}
 use Rattle.print.specs.Reply.{reply_room}
-use Rattle.blocks.specs.Left.{kept_bytes}
 use Rattle.calls.specs.Kept.{Noted}
 use Rattle.calls.proofs.Kept.{joined, at_front}
-use Rattle.calls.proofs.Lines.{cut_read}
-use Rattle.marginlog.specs.Entry.{short_entry, read_entry}
 use Rattle.marginlog.specs.Lines.{Prints, Printed}
-use Rattle.marginlog.specs.declared.entry.Entry.TheVariants.{Gross, Other}
-use Rattle.margin.specs.Session.{places, State, none_begun, after, Closes, with_count, state_of, Holds}
+use Rattle.marginlog.specs.declared.entry.Entry.TheVariants.{Gross}
+use Rattle.margin.specs.Session.{places, State, after, with_count, state_of, Holds}
 use Rattle.margin.specs.declared.session.Call.{Call}
 
 -- the states that differ in the samples
@@ -30,14 +27,6 @@ sample-joins c xs h x n l j =
       ap (with_samples (state_of c xs)) (joined xs c.count x places l n e h.within j),
       record { all-places = j.same ∙ e; within = omega (arith, w, e) },
     )
-
--- ---- a reader by what is kept of a line, and what the end prints before the first call
-
-pub cut : (t : List ℕ) → read_entry (take kept_bytes t) ≡ read_entry t
-cut t = cut_read short_entry Other t
-
-pub quiet : (text : List ℕ) → Closes none_begun text → text ≡ []
-quiet text e = e
 
 -- ---- what a call printed stands at the front of the output
 

@@ -1,5 +1,5 @@
 -- The calls of an input, line by line: what is kept of the call that is being read, and what a line prints.
-use Rattle.std.specs.Prelude.{ℕ, ◌+◌, ◌≤◌, ◌≡◌, Bool, true, false, ◌&&◌, not, List, [], ℤ, length, take}
+use Rattle.std.specs.Prelude.{ℕ, ◌+◌, ◌≤◌, ◌≡◌, Bool, true, false, ◌&&◌, not, List, [], ℤ, length, take, Option, None, Some}
 use Rattle.laws.specs.Choice.{when◌then◌else◌}
 use Rattle.settings.specs.Settings.{blank}
 use Rattle.settings.specs.declared.Settings.{Settings}
@@ -11,7 +11,7 @@ use Rattle.possible.specs.Answer.{most_samples}
 use Rattle.marginlog.specs.Entry.{read_entry}
 use Rattle.marginlog.specs.Lines.{Prints}
 use Rattle.marginlog.specs.declared.entry.Entry.{Entry}
-use Rattle.marginlog.specs.declared.entry.Entry.TheVariants.{Begin, Store, Gross, Other}
+use Rattle.marginlog.specs.declared.entry.Entry.TheVariants.{Begin, Store, Gross}
 use Rattle.margin.specs.declared.session.Call.{Call}
 
 -- samples that are too many are refused whatever follows: one over the most is kept
@@ -31,18 +31,24 @@ abbrev pub none_begun : State
 none_begun = record { begun = false; settled = false; e = 0; code = 0; settings = blank; samples = [] }
 
 -- the settings have their place once, behind the line that begins a call, and the samples behind the settings
-abbrev pub placed : Bool → Bool → Entry → Entry
-placed begun settled (Begin e) = Begin e
-placed begun settled (Store code s) = when begun && not settled then Store code s else Other
-placed begun settled (Gross x) = when settled then Gross x else Other
-placed begun settled Other = Other
+abbrev pub has_place : Bool → Bool → Entry → Bool
+has_place begun settled (Begin e) = true
+has_place begun settled (Store code s) = begun && not settled
+has_place begun settled (Gross x) = settled
 
--- the call behind a line
+abbrev pub placed : Bool → Bool → Option Entry → Option Entry
+placed begun settled None = None
+placed begun settled (Some e) = when has_place begun settled e then Some e else None
+
+-- the call behind a line; one of no such form or place leaves it
 abbrev pub after : State → Entry → State
 after s (Begin e) = record { begun = true; settled = false; e = e; code = 0; settings = blank; samples = [] }
 after s (Store code t) = record { begun = s.begun; settled = true; e = s.e; code = code; settings = t; samples = s.samples }
 after s (Gross x) = record { begun = s.begun; settled = s.settled; e = s.e; code = s.code; settings = s.settings; samples = noted places s.samples x }
-after s Other = s
+
+abbrev pub after_line : State → Option Entry → State
+after_line s None = s
+after_line s (Some e) = after s e
 
 -- what is printed where a call ends: nothing if none has begun. A call without settings has no samples either, and is refused 15
 abbrev pub ClosesBy : Bool → State → List ℕ → Type 0
@@ -57,18 +63,21 @@ abbrev pub Says : State → Entry → List ℕ → Type 0
 Says s (Begin e) text = Closes s text
 Says s (Store code t) text = text ≡ []
 Says s (Gross x) text = text ≡ []
-Says s Other text = text ≡ refused_text form_no 0
+
+abbrev pub SaysLine : State → Option Entry → List ℕ → Type 0
+SaysLine s None text = text ≡ refused_text form_no 0
+SaysLine s (Some e) text = Says s e text
 
 -- the program, for what it prints over a whole input
 abbrev pub margin_calls : Service
 margin_calls =
     record {
-      Entry = Entry;
+      Entry = Option Entry;
       State = State;
       reads = read_entry;
       start = none_begun;
-      after = λ s e. after s (placed s.begun s.settled e);
-      Says = λ s e text. Says s (placed s.begun s.settled e) text;
+      after = λ s e. after_line s (placed s.begun s.settled e);
+      Says = λ s e text. SaysLine s (placed s.begun s.settled e) text;
       Closes = Closes;
     }
 

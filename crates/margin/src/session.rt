@@ -1,42 +1,43 @@
-// A call, line by line: its samples stand in a lent memory of PLACES numbers.
-ghost use Rattle.std.specs.Prelude.{◌≡◌, ◌≤◌, length, take};
-ghost use Rattle.print.specs.Reply.{refused_text, reply_room};
-ghost use Rattle.calls.specs.Kept.{Noted};
-ghost use Rattle.marginlog.specs.Entry.{read_entry};
-ghost use Rattle.margin.specs.Session.{placed, after, Closes, Says, no_call, new_call, with_settings, with_count, state_of, Holds};
+// A call, line by line: its samples stand in a memory of PLACES numbers, with how many there are beside, since there is no heap.
+ghost use Rattle.std.specs.Prelude.{◌≡◌, ◌≤◌, length, take, None};
+ghost use Rattle.std.proofs.Common.{rules};
+ghost use Rattle.print.specs.Reply.{reply_room};
+ghost use Rattle.calls.proofs.Lines.{cut_read};
+ghost use Rattle.marginlog.specs.Entry.{short_entry, read_entry};
+ghost use Rattle.margin.specs.Session.{places, has_place, placed, after, after_line, Closes, Says, SaysLine, margin_calls, no_call, new_call, with_settings, with_count, state_of, Holds};
 
-use event::Reply;
+use calls::{Calls, note, refuse};
 use marginlog::{Entry, call_line, read_entry};
 use possible::MOST_SAMPLES;
-use print::reply_line;
+use refusal::Refusal;
 use settings::Settings;
 
 // Of samples that are too many one over the most is kept: they are refused whatever follows.
-pub(crate) const PLACES: usize = MOST_SAMPLES + 1;
+const PLACES: usize = MOST_SAMPLES + 1;
 
 // The call that is being read. Its samples are the first `count` numbers of the memory.
 #[derive(Clone, Copy)]
-pub(crate) struct Call {
+struct Call {
     // there is one
-    pub(crate) begun: bool,
+    begun: bool,
     // it has its settings
-    pub(crate) settled: bool,
-    pub(crate) e: u64,
-    pub(crate) code: u64,
-    pub(crate) settings: Settings,
-    pub(crate) count: usize,
+    settled: bool,
+    e: u64,
+    code: u64,
+    settings: Settings,
+    count: usize,
 }
 
 // What a line leaves: the call behind it, and how many bytes it prints.
 #[derive(Clone, Copy)]
-pub(crate) struct Served {
-    pub(crate) call: Call,
-    pub(crate) at: usize,
+struct Served {
+    call: Call,
+    at: usize,
 }
 
 impl Call {
     // No call has begun.
-    pub(crate) fn none() -> Call
+    fn none() -> Call
         ensures { result ≡ no_call }
     {
         Call {
@@ -90,38 +91,27 @@ impl Call {
     }
 }
 
-// A sample joins the first `count` numbers, if it has a place.
-fn note(samples: &mut [i64], count: usize, x: i64) -> usize
-    requires { count ≤ length samples.old }
-    ensures { Noted samples.old count x samples.new result }
-{
-    if count < samples.len() {
-        samples[count] = x;
-        return count + 1;
-    }
-    count
-}
-
 // The settings stand behind the line that begins the call, and the samples behind the settings.
-fn in_place(begun: bool, settled: bool, e: Entry) -> Entry
-    ensures { result ≡ placed begun settled e }
+fn has_place(begun: bool, settled: bool, e: Entry) -> bool
+    ensures { result ≡ has_place begun settled e }
 {
     match e {
-        Entry::Begin(margin) => Entry::Begin(margin),
-        Entry::Store(code, s) => {
-            if begun & !settled {
-                return Entry::Store(code, s);
-            }
-            Entry::Other
-        }
-        Entry::Gross(x) => {
-            if settled {
-                return Entry::Gross(x);
-            }
-            Entry::Other
-        }
-        Entry::Other => Entry::Other,
+        Entry::Begin(_) => true,
+        Entry::Store(_, _) => begun & !settled,
+        Entry::Gross(_) => settled,
     }
+}
+
+fn in_place(begun: bool, settled: bool, e: Option<Entry>) -> Option<Entry>
+    ensures { result ≡ placed begun settled e }
+{
+    let Some(said) = e else {
+        return None;
+    };
+    if has_place(begun, settled, said) {
+        return e;
+    }
+    None
 }
 
 // The call behind a line that says this.
@@ -136,24 +126,11 @@ fn keep(call: Call, e: Entry, samples: &mut [i64]) -> Call
             let n = note(samples, call.count, x);
             call.with_count(n)
         }
-        Entry::Other => call,
     }
 }
 
-// The line of a refusal.
-fn refuse(out: &mut [u8], number: u64) -> usize
-    requires { reply_room ≤ length out.old }
-    ensures { (result ≤ length out.new) × (take result out.new ≡ refused_text number 0) }
-{
-    let reply = Reply::Refused {
-        number: number,
-        input: 0,
-    };
-    reply_line(out, reply)
-}
-
 // What is printed where a call ends: its line, if one has begun.
-pub(crate) fn close(call: Call, samples: &[i64], out: &mut [u8]) -> usize
+fn close(call: Call, samples: &[i64], out: &mut [u8]) -> usize
     requires { Holds call samples.now × (reply_room ≤ length out.old) }
     ensures { (result ≤ length out.new) × Closes (state_of call samples.now) (take result out.new) }
 {
@@ -172,21 +149,69 @@ fn answer(call: Call, e: Entry, samples: &[i64], out: &mut [u8]) -> usize
 {
     match e {
         Entry::Begin(_) => close(call, samples, out),
-        Entry::Store(_, _) => 0,
-        Entry::Gross(_) => 0,
-        Entry::Other => refuse(out, refusal::FORM),
+        _ => 0,
     }
 }
 
 // A line of text: what it prints goes to the front of `out`.
-pub(crate) fn serve_line(call: Call, samples: &mut [i64], line: &[u8], out: &mut [u8]) -> Served
+fn serve_line(call: Call, samples: &mut [i64], line: &[u8], out: &mut [u8]) -> Served
     requires { Holds call samples.old × (reply_room ≤ length out.old) }
     ensures holds { Holds result.call samples.new × (result.at ≤ length out.new) }
-    ensures samples_after { state_of result.call samples.new ≡ after (state_of call samples.old) (placed call.begun call.settled (read_entry line.now)) }
-    ensures says { Says (state_of call samples.old) (placed call.begun call.settled (read_entry line.now)) (take result.at out.new) }
+    ensures samples_after { state_of result.call samples.new ≡ after_line (state_of call samples.old) (placed call.begun call.settled (read_entry line.now)) }
+    ensures says { SaysLine (state_of call samples.old) (placed call.begun call.settled (read_entry line.now)) (take result.at out.new) }
 {
-    let e = in_place(call.begun, call.settled, read_entry(line));
+    let Some(e) = in_place(call.begun, call.settled, read_entry(line)) else {
+        let at = refuse(out, Refusal::Form.number());
+        return Served { call, at };
+    };
     let at = answer(call, e, samples, out);
     let next = keep(call, e, samples);
     Served { call: next, at: at }
+}
+
+// The call that is being read, with the memory of its samples.
+#[derive(Drop)]
+pub(crate) struct Session {
+    call: Call,
+    samples: [i64; PLACES],
+}
+
+// Zeros for the samples; it says its length alone.
+fn list() -> [i64; PLACES]
+    ensures { length result ≡ places }
+{
+    [0; PLACES]
+}
+
+impl Calls for Session {
+    ghost service = { margin_calls };
+
+    ghost state = { λ s. state_of s.call s.samples };
+
+    ghost sound = { λ s. Holds s.call s.samples };
+
+    ghost room = { reply_room };
+
+    fn fresh() -> Session {
+        Session {
+            call: Call::none(),
+            samples: list(),
+        }
+    }
+
+    fn line(&mut self, line: &[u8], out: &mut [u8]) -> usize {
+        let served = serve_line(self.call, &mut self.samples, line, out);
+        self.call = served.call;
+        served.at
+    }
+
+    fn close(&mut self, out: &mut [u8]) -> usize {
+        close(self.call, &self.samples, out)
+    }
+
+    ghost room_fits = { Prim.search rules };
+
+    ghost cut = { cut_read short_entry None };
+
+    ghost quiet = { λ text e. e };
 }

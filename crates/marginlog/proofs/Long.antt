@@ -6,7 +6,7 @@ use lib.ListN.{length}
 use borrow.Author.Tests.{lt-leb}
 use Rattle.text.specs.Read.{longest_line}
 use Rattle.marginlog.specs.Entry.{read_entry}
-use Rattle.marginlog.specs.declared.entry.Entry.TheVariants.{Other}
+use Rattle.std.specs.Prelude.{None}
 
-pub too_long : (s : List ℕ) → longest_line < length s → Other ≡ read_entry s
+pub too_long : (s : List ℕ) → longest_line < length s → None ≡ read_entry s
 too_long s h = rw (lt-leb (length s) longest_line h)

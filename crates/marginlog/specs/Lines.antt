@@ -1,15 +1,16 @@
 -- What a call prints: `outcomes=` and the names of the possible ones, in the order of their numbers with commas between; or its refusal.
-use Rattle.std.specs.Prelude.{ℕ, ◌≡◌, Bool, true, not, List, [], ◌∷◌, ◌++◌, ◌≢◌, ℤ, length}
+use Rattle.std.specs.Prelude.{ℕ, ◌≡◌, Bool, not, List, [], ◌∷◌, ◌++◌, ℤ, length, Option, None, Some}
 use Rattle.laws.specs.Choice.{when◌then◌else◌}
 use Rattle.mask.specs.Bits.{bit_set}
 use Rattle.settings.specs.Settings.{is_code}
 use Rattle.settings.specs.declared.Settings.{Settings}
-use Rattle.refusal.specs.Table.{value_no, first_holding}
 use Rattle.decimal.specs.Bytes.{bytes}
 use Rattle.print.specs.Text.{line_end, field, joined}
 use Rattle.print.specs.Reply.{refused_text, reply_room}
 use Rattle.print.specs.Written.{length_written, buffer_after}
-use Rattle.possible.specs.Answer.{samples_no, count_fits, refusal_of, IsSet}
+use Rattle.possible.specs.Answer.{count_fits, number_of, refusal_of, IsSet}
+use Rattle.possible.specs.declared.Refusal.{Refusal}
+use Rattle.possible.specs.declared.Refusal.TheVariants.{Samples, Value}
 
 -- the name of an outcome, and whether it is possible
 pub record Named : Type 0 where
@@ -35,18 +36,15 @@ possible_ones (n ∷ ns) = when n.possible then n.name ∷ possible_ones ns else
 unfoldable pub outcomes_text : ℕ → List ℕ
 outcomes_text mask = field "outcomes" (joined (bytes ",") (possible_ones (outcome_names mask))) ++ line_end
 
--- the store line's code is a field like any other: 2 if it is out of range, behind 15; else the call's own refusal, 0 if it has none
-unfoldable pub refusal_at : List ℤ → ℕ → ℕ → Settings → ℕ
+-- the store line's code is a field like any other: 2 if it is out of range, behind 15; else the call's own refusal
+unfoldable pub refusal_at : List ℤ → ℕ → ℕ → Settings → Option Refusal
 refusal_at xs e code s =
-    first_holding
-    (record { number = samples_no; holds = not (count_fits (length xs)) }
-    ∷ record { number = value_no; holds = not (is_code code) }
-    ∷ record { number = refusal_of xs e s; holds = true }
-    ∷ [])
+    when not (count_fits (length xs)) then Some Samples
+    else (when not (is_code code) then Some Value else refusal_of xs e s)
 
 pub data Prints (xs : List ℤ) (e code : ℕ) (s : Settings) : List ℕ → Type 0 where
-  possible : (mask : ℕ) → refusal_at xs e code s ≡ 0 → IsSet s e xs mask → Prints xs e code s (outcomes_text mask)
-  refused : {n : ℕ} → refusal_at xs e code s ≡ n → n ≢ 0 → Prints xs e code s (refused_text n 0)
+  possible : (mask : ℕ) → refusal_at xs e code s ≡ None → IsSet s e xs mask → Prints xs e code s (outcomes_text mask)
+  refused : {r : Refusal} → refusal_at xs e code s ≡ Some r → Prints xs e code s (refused_text (number_of r) 0)
 
 -- it stands at the front of a buffer that has room for a reply, and n is its length
 pub record Printed (xs : List ℤ) (e code : ℕ) (s : Settings) (before after : List ℕ) (n : ℕ) : Type 0 where

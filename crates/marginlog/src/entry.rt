@@ -6,7 +6,7 @@ ghost use Rattle.marginlog.specs.Entry.{margin_form, value_in, store_in, store_o
 
 use event::Event;
 use field::read_field;
-use numeral::{Found, unsigned_of};
+use numeral::unsigned_of;
 use settings::Settings;
 use text::{LONGEST_LINE, Read, read_line};
 
@@ -17,65 +17,56 @@ pub enum Entry {
     Begin(u64),
     Store(u64, Settings),
     Gross(i64),
-    Other,
 }
 
-// The number of a line that is one field with a given key.
-#[derive(Clone, Copy)]
-pub(crate) enum Value {
-    Nothing,
-    Of(i64),
-}
-
-fn read_value(line: &[u8], key: &[u8]) -> Value
+// The number of a line that is one field with this key.
+fn read_value(line: &[u8], key: &[u8]) -> Option<i64>
     ensures { result ≡ value_in (line_values (map byte key.now ++ number ∷ []) line.now) }
 {
-    let Found::Value { value, next } = read_field(line, 0, key) else {
-        return Value::Nothing;
-    };
-    if next < line.len() {
-        return Value::Nothing;
+    let found = read_field(line, 0, key)?;
+    if found.next < line.len() {
+        return None;
     }
-    Value::Of(value)
+    Some(found.value)
 }
 
 // A code's settings, if this is a store.
-fn store_in(e: Event) -> Entry
+fn store_in(e: Event) -> Option<Entry>
     ensures { result ≡ store_in e }
 {
-    let Event::Store(code, s) = e else {
-        return Entry::Other;
-    };
-    Entry::Store(code, s)
+    match e {
+        Event::Store(code, s) => Some(Entry::Store(code, s)),
+        _ => None,
+    }
 }
 
-fn read_store(line: &[u8]) -> Entry
+fn read_store(line: &[u8]) -> Option<Entry>
     ensures { result ≡ store_or (read_line line.now) }
 {
-    let Read::Event(e) = read_line(line) else {
-        return Entry::Other;
-    };
-    store_in(e)
+    match read_line(line) {
+        Some(Read::Event(e)) => store_in(e),
+        _ => None,
+    }
 }
 
-fn read_margin(line: &[u8]) -> Entry
+fn read_margin(line: &[u8]) -> Option<Entry>
     ensures { result ≡ margin_or (value_in (line_values margin_form line.now)) (store_or (read_line line.now)) }
 {
     match read_value(line, b"e=") {
-        Value::Nothing => read_store(line),
-        Value::Of(e) => Entry::Begin(unsigned_of(e)),
+        None => read_store(line),
+        Some(e) => Some(Entry::Begin(unsigned_of(e))),
     }
 }
 
 #[tactic(auto, using(crate::proofs::Long::too_long))]
-pub fn read_entry(line: &[u8]) -> Entry
+pub fn read_entry(line: &[u8]) -> Option<Entry>
     ensures { result ≡ read_entry line.now }
 {
     if LONGEST_LINE < line.len() {
-        return Entry::Other;
+        return None;
     }
     match read_value(line, b"gross=") {
-        Value::Nothing => read_margin(line),
-        Value::Of(x) => Entry::Gross(x),
+        None => read_margin(line),
+        Some(x) => Some(Entry::Gross(x)),
     }
 }

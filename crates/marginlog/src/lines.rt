@@ -5,10 +5,9 @@ ghost use Rattle.print.specs.Written.{length_written, buffer_after};
 ghost use Rattle.marginlog.specs.Lines.{outcomes_text, Printed};
 ghost use Rattle.marginlog.specs.Views.{NamePut};
 
-use event::Reply;
-use possible::{Outcomes, count_fits, possible_outcomes};
+use event::Refused;
+use possible::{Refusal, count_fits, possible_outcomes};
 use print::{REPLY_ROOM, reply_line, text_at};
-use refusal::VALUE;
 use settings::{Settings, is_code};
 
 // The length of `outcomes=`: the first name stands there.
@@ -50,11 +49,7 @@ fn put_outcomes(out: &mut [u8], mask: u64) -> usize
 fn put_refused(out: &mut [u8], number: u64) -> usize
     ensures { (result ≡ length_written reply_room (refused_text number 0) out.old) × (out.new ≡ buffer_after reply_room (refused_text number 0) out.old) }
 {
-    let reply = Reply::Refused {
-        number: number,
-        input: 0,
-    };
-    reply_line(out, reply)
+    reply_line(out, Err(Refused { number, input: 0 }))
 }
 
 // What a call with these samples, this margin, and this code with its settings prints, at the front of `out`, and its length:
@@ -64,10 +59,10 @@ pub fn call_line(samples: &[i64], e: u64, code: u64, s: Settings, out: &mut [u8]
     ensures { Printed samples.now e code s out.old out.new result }
 {
     if count_fits(samples.len()) & !is_code(code) {
-        return put_refused(out, VALUE);
+        return put_refused(out, Refusal::Value.number());
     }
     match possible_outcomes(samples, e, s) {
-        Outcomes::Refused(number) => put_refused(out, number),
-        Outcomes::Possible(mask) => put_outcomes(out, mask),
+        Err(refusal) => put_refused(out, refusal.number()),
+        Ok(mask) => put_outcomes(out, mask),
     }
 }

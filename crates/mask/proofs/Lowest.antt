@@ -95,10 +95,10 @@ module _ (need safety : ℕ) where
   first (suc n) j = step n j (first n (suc j))
 
   -- the eight inputs
-  pub none-off : bit_and (need % 256) (255 - safety % 256) ≡ 0 → lowest_off need safety ≡ 0
-  none-off z = (first 8 0).0 (rw (div-one need, div-one safety) z)
+  pub none_off : bit_and (need % 256) (255 - safety % 256) ≡ 0 → lowest_off need safety ≡ 0
+  none_off z = (first 8 0).0 (rw (div-one need, div-one safety) z)
 
-  pub some-off :
+  pub some_off :
       0 < bit_and (need % 256) (255 - safety % 256) →
       lowest_off need safety ≡ count_trailing_zeros 8 (bit_and (need % 256) (255 - safety % 256)) + 1
-  some-off p = rw (div-one need, div-one safety) at ((first 8 0).1 (rw (div-one need, div-one safety) p)) ∙ omega arith
+  some_off p = rw (div-one need, div-one safety) at ((first 8 0).1 (rw (div-one need, div-one safety) p)) ∙ omega arith

@@ -9,16 +9,11 @@ ghost use Rattle.mask.specs.Bits.{marked, lowest_off};
 pub fn has(mask: u64, verdict: u64) -> bool
     ensures { result ≡ marked mask verdict }
 {
-    if verdict < 1 {
-        return false;
-    }
-    if 8 < verdict {
-        return false;
-    }
-    (mask >> (8 - verdict)) % 2 == 1
+    (1..=8).contains(&verdict) && (mask >> (8 - verdict)) % 2 == 1
 }
 
-// The number of the lowest required input that is off, 0 where none is.
+// The number of the lowest required input that is off, 0 where none is: a number and no Option, since the reply prints it so.
+#[tactic(auto, using(crate::proofs::Lowest::none_off, crate::proofs::Lowest::some_off))]
 pub fn lowest_off(need: u64, safety: u64) -> u64
     ensures { result ≡ lowest_off need safety }
 {
@@ -26,5 +21,5 @@ pub fn lowest_off(need: u64, safety: u64) -> u64
     if off == 0 {
         return 0;
     }
-    (u8::trailing_zeros(off) as u64) + 1
+    u64::from(off.trailing_zeros()) + 1
 }

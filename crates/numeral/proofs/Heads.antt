@@ -1,21 +1,23 @@
 -- What a step of the reader does to the rest of the line. Assumes nothing.
 use Prim.Native.Nat.{ℕ, zero, suc, ◌+◌, ◌-◌, ◌*◌, ◌≤◌, ◌<◌, min}
 use mathlib.Core.Path.{◌≡◌, refl, sym, ap, ◌∙◌}
-use mathlib.Core.Bool.{Bool, true, false, ◌&&◌}
+use mathlib.Core.Bool.{Bool, true, false, ◌&&◌, and-false}
 use mathlib.Core.List.{List, [], ◌∷◌}
-use lib.ListN.{length, get_or, drop, drop_of_length-le, length-drop}
+use lib.ListN.{length, get_or, drop, drop_of_length-le}
 use lib.Dec.{leb}
-use lib.IntN.{ℤ, pos}
+use lib.IntN.{pos}
 use native.Mathlib.Decide.{dec_le}
 use native.Mathlib.Nat.{lt_of_not-le}
 use native.Mathlib.Omega.{arith}
-use borrow.Author.Tests.{leb-true, eqb-true}
+use lib.Seq.{drop-drop}
+use borrow.Author.Tests.{leb-true, eqb-true, le-leb}
 use Rattle.laws.specs.Choice.{when◌then◌else◌, within}
-use Rattle.laws.proofs.Tests.{both, never}
+use Rattle.laws.proofs.Tests.{both, and_intro, never}
 use Rattle.lists.proofs.Past.{cut}
-use Rattle.numeral.specs.Number.{none, some, is_digit, signed, digits, positive, number_head, four_digits, four_number, four_head, limit, hold}
-use Rattle.numeral.specs.Found.{byte_is, digit_from, held_head, found, four_of}
-use Rattle.numeral.specs.declared.Found.TheVariants.{Nothing, Value}
+use Rattle.numeral.specs.Number.{none, some, is_digit, digit_of, signed, digits, positive, number_head, four_digits, four_number, four_head, limit, hold}
+use Rattle.numeral.specs.Found.{byte_is, digit_head, held_head}
+use Rattle.std.specs.Prelude.{Some, None}
+use Rattle.std.proofs.lemmas.Option.{none-some, same_Some}
 
 -- the byte at a place, where a test of the rest of the line is passed
 pub inside : (P : List ℕ → Bool) (line : List ℕ) (i : ℕ) → P [] ≡ false → P (drop i line) ≡ true → i < length line
@@ -35,26 +37,35 @@ byte-here c line i h =
     let e : get_or line i 0 ≡ c = eqb-true (get_or line i 0) c (rw (cut line i l) at h) in
     record { inside = l; rest = cut line i l ∙ ap (λ (b : ℕ). b ∷ drop (i + 1) line) e }
 
-pub record Digit (low : ℕ) (line : List ℕ) (i : ℕ) : Type 0 where
+pub record Digit (line : List ℕ) (i d : ℕ) : Type 0 where
   pub inside : i < length line
-  pub test : within low 57 (get_or line i 0) ≡ true
-  pub least : low ≤ get_or line i 0
+  pub test : is_digit (get_or line i 0) ≡ true
+  pub least : 48 ≤ get_or line i 0
   pub most : get_or line i 0 ≤ 57
+  pub value : d ≡ get_or line i 0 - 48
 
-pub digit-here : (low : ℕ) (line : List ℕ) (i : ℕ) → digit_from low (drop i line) ≡ true → Digit low line i
-digit-here low line i h =
-    let l = inside (digit_from low) line i refl h in
-    let t : within low 57 (get_or line i 0) ≡ true = rw (cut line i l) at h in
-    let b = both (leb low (get_or line i 0)) (leb (get_or line i 0) 57) t in
-    record { inside = l; test = t; least = leb-true low (get_or line i 0) b.0; most = leb-true (get_or line i 0) 57 b.1 }
+chosen : (b : Bool) (x d : ℕ) → Some d ≡ (when b then Some x else None) → (b ≡ true) × (d ≡ x)
+chosen true x d h = (refl, same_Some d x h)
+chosen false x d h = absurd (none-some d (sym h))
 
--- The tests of the code.
+-- no digit stands there
+unchosen : (b : Bool) (x : ℕ) → None ≡ (when b then Some x else None) → b ≡ false
+unchosen true x h = absurd (none-some x h)
+unchosen false x h = refl
 
-pub byte-end : (c : ℕ) (line : List ℕ) (i : ℕ) → length line ≤ i → false ≡ byte_is c (drop i line)
-byte-end c line i h = rw (drop_of_length-le line h)
-
-pub digit-end : (low : ℕ) (line : List ℕ) (i : ℕ) → length line ≤ i → false ≡ digit_from low (drop i line)
-digit-end low line i h = rw (drop_of_length-le line h)
+pub digit-here : (line : List ℕ) (i d : ℕ) → Some d ≡ digit_head (drop i line) → Digit line i d
+digit-here line i d h =
+    elim (dec_le (length line) i) [
+      | yes le ↦ absurd (none-some d (sym (rw (drop_of_length-le line le) at h)))
+      | no f ↦ go (lt_of_not-le f)
+    ]
+  where
+    go : i < length line → Digit line i d
+    go l =
+        let b = get_or line i 0 in
+        let c = chosen (is_digit b) (b - 48) d (rw (cut line i l) at h) in
+        let p = both (leb 48 b) (leb b 57) c.0 in
+        record { inside = l; test = c.0; least = leb-true 48 b p.0; most = leb-true b 57 p.1; value = c.1 }
 
 -- Digits.
 
@@ -77,29 +88,23 @@ held_same below n m (b ∷ s) h = go (is_digit b) (held_same below (n * 10 + (b 
     go true e = e
     go false e = held-end below n m (b ∷ s) h
 
-pub digits-end : (below : Bool) (n : ℕ) (s : List ℕ) → digit_from 48 s ≡ false → digits below n s ≡ some (signed below n) s
+pub digits-end : (below : Bool) (n : ℕ) (s : List ℕ) → None ≡ digit_head s → digits below n s ≡ some (signed below n) s
 digits-end below n [] h = refl
-digits-end below n (b ∷ s) h = rw h
+digits-end below n (b ∷ s) h = rw (unchosen (is_digit b) (digit_of b) h) refl
 
 module _ (line : List ℕ) (i n : ℕ) (below : Bool) where
-  pub digits_stop : n ≤ limit → digit_from 48 (drop i line) ≡ false → some (signed below n) (drop i line) ≡ held_head (digits below n (drop i line))
-  digits_stop h e =
-      let m : n ≡ min n limit = omega arith in
-      sym (ap held_head (digits-end below n (drop i line) e) ∙ ap (λ (x : ℤ). some x (drop i line)) (hold-signed below n ∙ ap (signed below) (sym m)))
-
-  pub digits_step : (d : Digit 48 line i)
-      → held_head (digits below (min (n * 10 + (get_or line i 0 - 48)) limit) (drop (i + 1) line)) ≡ held_head (digits below n (drop i line))
-  digits_step d =
-      rw (cut line i d.inside, d.test)
+  pub digits_step : (d : ℕ) → Digit line i d
+      → held_head (digits below (min (n * 10 + d) limit) (drop (i + 1) line)) ≡ held_head (digits below n (drop i line))
+  digits_step d h =
+      rw (cut line i h.inside, h.test, h.value)
       (held_same below (min (n * 10 + (get_or line i 0 - 48)) limit) (n * 10 + (get_or line i 0 - 48)) (drop (i + 1) line) (omega arith))
 
-pub positive-none : (below : Bool) (s : List ℕ) → digit_from 49 s ≡ false → none ≡ held_head (positive below s)
-positive-none below [] h = refl
-positive-none below (b ∷ s) h = rw h
-
-pub positive-more : (line : List ℕ) (i : ℕ) (below : Bool) → Digit 49 line i
-    → held_head (digits below (get_or line i 0 - 48) (drop (i + 1) line)) ≡ held_head (positive below (drop i line))
-positive-more line i below d = rw (cut line i d.inside, d.test)
+pub positive-more : (line : List ℕ) (i d : ℕ) (below : Bool) → Digit line i d → (d ≡ 0 → ⊥)
+    → held_head (digits below d (drop (i + 1) line)) ≡ held_head (positive below (drop i line))
+positive-more line i d below h p =
+    let least : 49 ≤ get_or line i 0 = omega (arith, h.least, h.value, p) in
+    let e : within 49 57 (get_or line i 0) ≡ true = and_intro (le-leb 49 (get_or line i 0) least) (le-leb (get_or line i 0) 57 h.most) in
+    rw (cut line i h.inside, e, h.value) refl
 
 -- A number by its first byte.
 
@@ -109,10 +114,6 @@ module _ (line : List ℕ) (i : ℕ) where
 
   pub number-minus : Byte 45 line i → held_head (positive true (drop (i + 1) line)) ≡ held_head (number_head (drop i line))
   number-minus b = rw b.rest
-
-pub number-plain : (s : List ℕ) → byte_is 48 s ≡ false → byte_is 45 s ≡ false → held_head (positive false s) ≡ held_head (number_head s)
-number-plain [] p q = refl
-number-plain (b ∷ s) p q = rw (p, q)
 
 -- Four digits.
 
@@ -132,15 +133,21 @@ four-bounds a b c d e =
     let r = both (is_digit c) (is_digit d) q.1 in
     record { first = digit-bounds a p.0; second = digit-bounds b q.0; third = digit-bounds c r.0; fourth = digit-bounds d r.1 }
 
-four-none : (s : List ℕ) → length s < 4 → none ≡ held_head (four_head s)
-four-none [] h = refl
-four-none (a ∷ []) h = refl
-four-none (a ∷ b ∷ []) h = refl
-four-none (a ∷ b ∷ c ∷ []) h = refl
-four-none (a ∷ b ∷ c ∷ d ∷ s) h = absurd (omega arith)
+-- the first byte that is no digit decides
+four-missed : (s : List ℕ) (k : ℕ) → k < 4 → None ≡ digit_head (drop k s) → none ≡ held_head (four_head s)
+four-missed [] k h e = refl
+four-missed (a ∷ []) k h e = refl
+four-missed (a ∷ b ∷ []) k h e = refl
+four-missed (a ∷ b ∷ c ∷ []) k h e = refl
+four-missed (a ∷ b ∷ c ∷ d ∷ s) zero h e = rw (unchosen (is_digit a) (digit_of a) e) refl
+four-missed (a ∷ b ∷ c ∷ d ∷ s) (suc zero) h e = rw (unchosen (is_digit b) (digit_of b) e, and-false (is_digit a)) refl
+four-missed (a ∷ b ∷ c ∷ d ∷ s) (suc (suc zero)) h e = rw (unchosen (is_digit c) (digit_of c) e, and-false (is_digit b), and-false (is_digit a)) refl
+four-missed (a ∷ b ∷ c ∷ d ∷ s) (suc (suc (suc zero))) h e =
+    rw (unchosen (is_digit d) (digit_of d) e, and-false (is_digit c), and-false (is_digit b), and-false (is_digit a)) refl
+four-missed (a ∷ b ∷ c ∷ d ∷ s) (suc (suc (suc (suc k)))) h e = absurd (omega (arith, h))
 
-pub four-short : (line : List ℕ) (i : ℕ) → length line < i + 4 → none ≡ held_head (four_head (drop i line))
-four-short line i h = four-none (drop i line) (simp length-drop (omega arith))
+pub four-none : (line : List ℕ) (i k : ℕ) → k < 4 → None ≡ digit_head (drop (i + k) line) → none ≡ held_head (four_head (drop i line))
+four-none line i k h e = four-missed (drop i line) k h (rw (drop-drop k i line) e)
 
 four-cut : (line : List ℕ) (i : ℕ) → i + 4 ≤ length line
     → drop i line ≡ get_or line i 0 ∷ get_or line (i + 1) 0 ∷ get_or line (i + 2) 0 ∷ get_or line (i + 3) 0 ∷ drop (i + 4) line
@@ -153,20 +160,14 @@ four-cut line i h =
     let c4 : drop (i + 3) line ≡ get_or line (i + 3) 0 ∷ drop (i + 4) line = rw e4 at (cut line (i + 3) (omega arith)) in
     cc (cut line i (omega arith))
 
-four_view : (line : List ℕ) (a b c d next : ℕ) → found line (four_of a b c d next) ≡ held_head (four_head (a ∷ b ∷ c ∷ d ∷ drop next line))
-four_view line a b c d next = go (four_digits a b c d) refl
-  where
-    small : four_digits a b c d ≡ true → four_number a b c d ≡ min (four_number a b c d) limit
-    small e = let f = four-bounds a b c d e in omega arith
-
-    go : (t : Bool) → four_digits a b c d ≡ t
-        → found line (when t then Value (pos (four_number a b c d)) next else Nothing)
-        ≡ held_head (when t then some (pos (four_number a b c d)) (drop next line) else none)
-    go true e = ap (λ (x : ℕ). some (pos x) (drop next line)) (small e)
-    go false e = refl
-
-pub four-found : (line : List ℕ) (i : ℕ) → i + 4 ≤ length line
-    → found line (four_of (get_or line i 0) (get_or line (i + 1) 0) (get_or line (i + 2) 0) (get_or line (i + 3) 0) (i + 4)) ≡ held_head (four_head (drop i line))
-four-found line i h =
-    rw (four-cut line i h)
-    (four_view line (get_or line i 0) (get_or line (i + 1) 0) (get_or line (i + 2) 0) (get_or line (i + 3) 0) (i + 4))
+pub four-found : (line : List ℕ) (i a b c d : ℕ) → Digit line i a → Digit line (i + 1) b → Digit line (i + 2) c → Digit line (i + 3) d
+    → some (pos (a * 1000 + b * 100 + c * 10 + d)) (drop (i + 4) line) ≡ held_head (four_head (drop i line))
+four-found line i a b c d p q r t =
+    let w = get_or line i 0 in
+    let x = get_or line (i + 1) 0 in
+    let y = get_or line (i + 2) 0 in
+    let z = get_or line (i + 3) 0 in
+    let small : four_number w x y z ≡ min (four_number w x y z) limit = omega (arith, p.most, q.most, r.most, t.most) in
+    let n : a * 1000 + b * 100 + c * 10 + d ≡ four_number w x y z = cc (p.value, q.value, r.value, t.value) in
+    rw (four-cut line i (omega (arith, t.inside)), p.test, q.test, r.test, t.test, n)
+    (ap (λ (m : ℕ). some (pos m) (drop (i + 4) line)) small)

@@ -2,7 +2,7 @@
 use mathlib.Core.Path.{◌≡◌, refl}
 use mathlib.Core.Bool.{Bool, true, false, ◌&&◌, not}
 use mathlib.Core.List.{List}
-use Prim.Native.Nat.{ℕ, ◌-◌, ◌*◌, ◌≤◌, ◌<◌}
+use Prim.Native.Nat.{ℕ, ◌-◌, ◌*◌, ◌≤◌}
 use native.Mathlib.Omega.{arith}
 use lib.Dec.{leb, ltb}
 use lib.ListN.{length}
@@ -10,15 +10,16 @@ use borrow.Author.Tests.{leb-true, ltb-false, not-false}
 use Rattle.laws.specs.Choice.{when◌then◌else◌}
 use Rattle.laws.proofs.Tests.{both}
 use Rattle.time.specs.Time.{longest}
-use Rattle.refusal.specs.Table.{value_no}
-use Rattle.pairing.specs.Answer.{order_no, window_no, pairs_no, longest_list, rises, in_order, ticks_fit, in_window, refusal_of, Given}
+use Rattle.pairing.specs.Answer.{longest_list, rises, in_order, ticks_fit, in_window, refusal_of, Given}
+use Rattle.std.specs.Prelude.{Option, None, Some}
+use Rattle.pairing.specs.declared.Refusal.TheVariants.{Order, Value, Window, Pairs}
 use Rattle.pairing.specs.Sweep.{Filled}
 use Rattle.pairing.proofs.Entries.{Sorted, sorted}
 use Rattle.pairing.proofs.Sweeps.{Good, sweep-good, sweep-largest}
 
-passed : (h : Bool) (n rest : ℕ) → 0 < n → (when h then n else rest) ≡ 0 → (h ≡ false) × (rest ≡ 0)
-passed true n rest p e = absurd (omega arith)
-passed false n rest p e = (refl, e)
+passed : {A : Type 0} (h : Bool) (r : A) (rest : Option A) → (when h then Some r else rest) ≡ None → (h ≡ false) × (rest ≡ None)
+passed true r rest e = cc
+passed false r rest e = (refl, e)
 
 pub record Accepted (vs ts : List ℕ) (a b room : ℕ) : Type 0 where
   pub short : length vs ≤ longest_list
@@ -37,13 +38,13 @@ short_of : (l : List ℕ) → in_order l ≡ true → length l ≤ longest_list
 unfolding in_order
 short_of l h = leb-true (length l) longest_list (both (leb (length l) longest_list) (rises l) h).0
 
-pub accepted : (vs ts : List ℕ) (a b room : ℕ) → refusal_of vs ts a b room ≡ 0 → Accepted vs ts a b room
+pub accepted : (vs ts : List ℕ) (a b room : ℕ) → refusal_of vs ts a b room ≡ None → Accepted vs ts a b room
 unfolding refusal_of
 accepted vs ts a b room e =
-    let p = passed (not (in_order vs && in_order ts)) order_no _ (omega arith) e in
-    let q = passed (not (ticks_fit vs && ticks_fit ts)) value_no _ (omega arith) p.1 in
-    let r = passed (not (in_window a b)) window_no _ (omega arith) q.1 in
-    let s = passed (ltb room (2 * length vs)) pairs_no 0 (omega arith) r.1 in
+    let p = passed (not (in_order vs && in_order ts)) Order _ e in
+    let q = passed (not (ticks_fit vs && ticks_fit ts)) Value _ p.1 in
+    let r = passed (not (in_window a b)) Window _ q.1 in
+    let s = passed (ltb room (2 * length vs)) Pairs None r.1 in
     let o = both (in_order vs) (in_order ts) (not-false _ p.0) in
     let t = both (ticks_fit vs) (ticks_fit ts) (not-false _ q.0) in
     let w = both (leb a b) (leb b longest) (not-false _ r.0) in

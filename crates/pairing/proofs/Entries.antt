@@ -1,16 +1,16 @@
 -- The entries of a list: what holds of each, strictly rising lists as loops test them, and what is left over. Assumes nothing.
 use mathlib.Core.Path.{◌≡◌, refl, sym, ap, subst, ◌∙◌}
-use mathlib.Core.Bool.{true, false}
+use mathlib.Core.Bool.{Bool, true, false, ◌&&◌}
+use Rattle.std.specs.List.{AllAdjacentBelow, IsAllAdjacentAnswer}
 use mathlib.Core.List.{List, [], ◌∷◌, map}
 use mathlib.Core.Logic.{◌≢◌}
-use Prim.Native.Nat.{ℕ, zero, suc, ◌+◌, ◌-◌, ◌≤◌, ◌<◌}
+use Prim.Native.Nat.{ℕ, zero, suc, ◌+◌, ◌≤◌, ◌<◌}
 use native.Mathlib.Omega.{arith}
 use lib.Dec.{eqb, ltb, leb}
-use lib.ListN.{length, get_or, drop, length-drop, drop_of_length-le}
-use borrow.Author.Tests.{ltb-true, leb-true, le-leb, lt-leb, lt-ltb, le-ltb, eqb-true, eq-eqb, ne_eqb}
+use lib.ListN.{length, get_or}
+use borrow.Author.Tests.{ltb-true, leb-true, eqb-true, eq-eqb, ne_eqb}
 use Rattle.laws.proofs.Tests.{both, by_cases, never}
 use Rattle.lists.specs.Each.{any_of, all_of, counted}
-use Rattle.lists.proofs.Past.{cut}
 use Rattle.pairing.specs.Pairing.{stands_in, Every, none, more, left_over}
 use Rattle.pairing.specs.Answer.{rises, ticks_fit, last_tick}
 
@@ -62,6 +62,10 @@ every_in {P} x (more {x = y} {l = l} p e) h =
 
 -- ---- strictly rising lists
 
+and_false : (b : Bool) → b && false ≡ false
+and_false true = refl
+and_false false = refl
+
 -- each entry is before every later one
 abbrev pub Sorted : List ℕ → Type 0
 Sorted [] = Unit
@@ -76,26 +80,25 @@ sorted (x ∷ y ∷ l) h =
     let s = sorted (y ∷ l) p.1 in
     (more q (every_map (λ z g. omega (arith, q, g)) s.0), s)
 
--- entry i is compared with the one before it
-module _ (l : List ℕ) (i : ℕ) (h : 0 < i) where
-  two : i < length l → drop (i - 1) l ≡ get_or l (i - 1) 0 ∷ get_or l i 0 ∷ drop (i + 1) l
-  two g =
-      let e : i - 1 + 1 ≡ i = omega (arith, h) in
-      cut l (i - 1) (omega (arith, g)) ∙ ap (λ (k : List ℕ). get_or l (i - 1) 0 ∷ k) (rw e (cut l i g))
+-- each entry and the next tell whether a list rises
+all-rise : (l : List ℕ) → AllAdjacentBelow (λ x y. true ≡ ltb x y) l (length l) → rises l ≡ true
+all-rise [] h = refl
+all-rise (x ∷ []) h = refl
+all-rise (x ∷ y ∷ l) h =
+    let rest = all-rise (y ∷ l) (λ k d g. let on : suc k + 1 ≡ suc (k + 1) = omega arith in subst (λ (m : ℕ). true ≡ ltb (get_or (y ∷ l) k d) (get_or (x ∷ y ∷ l) m d)) on (h (suc k) d (omega (arith, g)))) in
+    rw (sym (h 0 0 (omega arith)), rest) refl
 
-  pub rises-on : i < length l → get_or l (i - 1) 0 < get_or l i 0 → rises (drop (i - 1) l) ≡ rises (drop i l)
-  rises-on g s = rw (two g, cut l i g, lt-ltb _ _ s)
+one-falls : (l : List ℕ) (k : ℕ) → k + 1 < length l → ((d : ℕ) → false ≡ ltb (get_or l k d) (get_or l (k + 1) d)) → rises l ≡ false
+one-falls [] k g h = absurd (omega (arith, g))
+one-falls (x ∷ []) k g h = absurd (omega (arith, g))
+one-falls (x ∷ y ∷ l) zero g h = rw (sym (h 0))
+one-falls (x ∷ y ∷ l) (suc k) g h =
+    let on : suc k + 1 ≡ suc (k + 1) = omega arith in
+    ap (λ (r : Bool). ltb x y && r) (one-falls (y ∷ l) k (omega (arith, g)) (λ d. rw on at h d)) ∙ and_false (ltb x y)
 
-  pub falls : i < length l → get_or l i 0 ≤ get_or l (i - 1) 0 → rises (drop (i - 1) l) ≡ false
-  falls g s = rw (two g, le-ltb _ _ s)
-
-short-rises : (l : List ℕ) → length l ≤ 1 → rises l ≡ true
-short-rises [] h = refl
-short-rises (x ∷ []) h = refl
-short-rises (x ∷ y ∷ l) h = absurd (omega (arith, h))
-
-pub rises-end : (l : List ℕ) (i : ℕ) → length l ≤ i → rises (drop (i - 1) l) ≡ true
-rises-end l i h = short-rises (drop (i - 1) l) (rw (length-drop (i - 1) l) (omega (arith, h)))
+pub rises_by : (l : List ℕ) (r : Bool) → IsAllAdjacentAnswer (λ x y b. b ≡ ltb x y) l r → r ≡ rises l
+rises_by l true h = sym (all-rise l h)
+rises_by l false h = sym (one-falls l h.0 h.1 h.2)
 
 -- ---- ticks
 
@@ -104,19 +107,6 @@ unfolding all_of
 tick-fits [] i h = omega arith
 tick-fits (x ∷ l) zero h = leb-true x last_tick (both (leb x last_tick) (ticks_fit l) h).0
 tick-fits (x ∷ l) (suc i) h = tick-fits l i (both (leb x last_tick) (ticks_fit l) h).1
-
-module _ (l : List ℕ) (i : ℕ) where
-  pub tick-on : i < length l → get_or l i 0 ≤ last_tick → ticks_fit (drop i l) ≡ ticks_fit (drop (i + 1) l)
-  unfolding all_of
-  tick-on h g = rw (cut l i h, le-leb _ _ g)
-
-  pub tick_over : i < length l → last_tick < get_or l i 0 → ticks_fit (drop i l) ≡ false
-  unfolding all_of
-  tick_over h g = rw (cut l i h, lt-leb _ _ g)
-
-  pub ticks-end : length l ≤ i → ticks_fit (drop i l) ≡ true
-  unfolding all_of
-  ticks-end h = rw (drop_of_length-le l h)
 
 -- ---- what is left over
 

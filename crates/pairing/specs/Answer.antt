@@ -1,12 +1,12 @@
 -- 02, T-13: the call's refusals in their order, and what it answers.
-use Rattle.std.specs.Prelude.{◌≡◌, Bool, true, ◌&&◌, not, List, [], ◌∷◌, ◌++◌, ◌≢◌, ℕ, ◌+◌, ◌*◌, ◌≤◌, leb, ltb, length, drop}
+use Rattle.std.specs.Prelude.{◌≡◌, Bool, true, ◌&&◌, not, List, [], ◌∷◌, ◌++◌, ℕ, ◌+◌, ◌*◌, ◌≤◌, leb, ltb, length, drop, Option, None, Some, Result, Ok, Err}
 use Rattle.lists.specs.Each.{all_of}
 use Rattle.time.specs.Time.{longest}
 use Rattle.refusal.specs.Table.{value_no, first_holding}
 use Rattle.pairing.specs.Pairing.{Pair, Pairing, Ordered, flat, verdicts_of, signals_of, left_over}
 use Rattle.pairing.specs.declared.Counts.{Counts}
-use Rattle.pairing.specs.declared.Answer.{Answer}
-use Rattle.pairing.specs.declared.Answer.TheVariants.{Refused, Paired}
+use Rattle.pairing.specs.declared.Refusal.{Refusal}
+use Rattle.pairing.specs.declared.Refusal.TheVariants.{Order, Value, Window, Pairs}
 
 -- "New numbers: 16 order, a list not rising or too long; 17 window, unless 0 ≤ a ≤ b ≤ 9,999; 18 pairs, buffer shorter than twice the verdict list."
 abbrev pub order_no : ℕ
@@ -17,6 +17,12 @@ window_no = 17
 
 abbrev pub pairs_no : ℕ
 pairs_no = 18
+
+abbrev pub number_of : Refusal → ℕ
+number_of Order = order_no
+number_of Value = value_no
+number_of Window = window_no
+number_of Pairs = pairs_no
 
 -- "at most 4,096 ticks"
 abbrev pub longest_list : ℕ
@@ -42,14 +48,14 @@ ticks_fit l = all_of (λ t. leb t last_tick) l
 abbrev pub in_window : ℕ → ℕ → Bool
 in_window a b = leb a b && leb b longest
 
--- "Order 16, 2 for a tick too large, 17, 18": the first that holds, 0 if none does; room is the buffer's length
-unfoldable pub refusal_of : List ℕ → List ℕ → ℕ → ℕ → ℕ → ℕ
+-- "Order 16, 2 for a tick too large, 17, 18": the first that holds; room is the buffer's length
+unfoldable pub refusal_of : List ℕ → List ℕ → ℕ → ℕ → ℕ → Option Refusal
 refusal_of vs ts a b room =
     first_holding
-    (record { number = order_no; holds = not (in_order vs && in_order ts) }
-    ∷ record { number = value_no; holds = not (ticks_fit vs && ticks_fit ts) }
-    ∷ record { number = window_no; holds = not (in_window a b) }
-    ∷ record { number = pairs_no; holds = ltb room (2 * length vs) }
+    (record { refusal = Order; holds = not (in_order vs && in_order ts) }
+    ∷ record { refusal = Value; holds = not (ticks_fit vs && ticks_fit ts) }
+    ∷ record { refusal = Window; holds = not (in_window a b) }
+    ∷ record { refusal = Pairs; holds = ltb room (2 * length vs) }
     ∷ [])
 
 -- a largest pairing, "in rising order of verdict tick"
@@ -77,9 +83,7 @@ pub record Given (vs ts : List ℕ) (a b : ℕ) (before after : List ℕ) (c : C
   -- "The pairs go to a lent buffer, verdict tick then signal tick, .. the rest of it stays."
   pub written : after ≡ flat pairs ++ drop (2 * length pairs) before
 
--- a refused call has its number and leaves the buffer
-abbrev pub Answered : List ℕ → List ℕ → ℕ → ℕ → List ℕ → List ℕ → Answer → Type 0
-Answered vs ts a b before after (Refused n) =
-    (refusal_of vs ts a b (length before) ≡ n) × (n ≢ 0) × (after ≡ before)
-Answered vs ts a b before after (Paired c) =
-    (refusal_of vs ts a b (length before) ≡ 0) × Given vs ts a b before after c
+-- a refused call leaves the buffer
+abbrev pub Answered : List ℕ → List ℕ → ℕ → ℕ → List ℕ → List ℕ → Result Counts Refusal → Type 0
+Answered vs ts a b before after (Err r) = (refusal_of vs ts a b (length before) ≡ Some r) × (after ≡ before)
+Answered vs ts a b before after (Ok c) = (refusal_of vs ts a b (length before) ≡ None) × Given vs ts a b before after c

@@ -1,9 +1,12 @@
 -- Three counts to a number: they are read back; and a list of counts with one more in a class. Assumes nothing.
 use mathlib.Core.Path.{◌≡◌, refl, sym, ap, ◌∙◌}
+use mathlib.Core.Bool.{Bool, true, false}
 use mathlib.Core.List.{List, [], ◌∷◌}
 use Prim.Native.Nat.{ℕ, ◌+◌, ◌/◌, ◌%◌, ◌≤◌, ◌<◌}
 use native.Mathlib.Omega.{arith}
 use lib.ListN.{length, get_or}
+use mir.Val.{bool_byte}
+use Rattle.laws.specs.Choice.{bit}
 use Rattle.lists.specs.Counts.{add_up, one_more, tab}
 use Rattle.lists.proofs.Counts.{here, tab-is, tab-more}
 use Rattle.part.specs.Classes.{base, three_of, packed, counts_of, three_sum}
@@ -56,20 +59,25 @@ packed-counts l e h =
 
 -- ---- all counts together
 
-pub counts-sum : (c : Classes)
+pub counts_sum : (c : Classes)
     → add_up (counts_of c)
     ≡ three_sum c.from_0 + three_sum c.from_3 + three_sum c.from_6 + three_sum c.from_9 + three_sum c.from_12 + three_sum c.from_15 + three_sum c.from_18
 unfolding counts_of
-counts-sum c =
+counts_sum c =
     by_three c.from_0 _ _ (by_three c.from_3 _ _ (by_three c.from_6 _ _ (by_three c.from_9 _ _
     (by_three c.from_12 _ _ (by_three c.from_15 _ _ (by_three c.from_18 _ _ none_left_lem))))))
     ∙ omega arith
 
 -- ---- one more
 
+-- a test as a number
+pub byte_is : (b : Bool) → bool_byte b ≡ bit b
+byte_is true = refl
+byte_is false = refl
+
 -- each count, and 1 more of class k's
-pub raised-counts : (c : Classes) (k : ℕ) → k ≤ 20 → one_more (counts_of c) k ≡ tab 21 (λ (i : ℕ). get_or (counts_of c) i 0 + here k i)
+pub raised_counts : (c : Classes) (k : ℕ) → k ≤ 20 → one_more (counts_of c) k ≡ tab 21 (λ (i : ℕ). get_or (counts_of c) i 0 + here k i)
 unfolding counts_of
-raised-counts c k h =
+raised_counts c k h =
     let l = counts_of c in
     ap (λ (m : List ℕ). one_more m k) (sym (tab-is 21 l 0 refl)) ∙ tab-more 21 (λ (i : ℕ). get_or l i 0) k (omega arith)

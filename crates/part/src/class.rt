@@ -21,9 +21,5 @@ pub(crate) fn class_of(net: i64, target: i64) -> u64
     if above < 0 {
         return 0;
     }
-    let k = size(above) / WIDTH;
-    if 20 < k {
-        return 20;
-    }
-    k
+    (size(above) / WIDTH).min(20)
 }

@@ -50,31 +50,23 @@ pub fn third(w: u64) -> u64
     w / BASE / BASE
 }
 
+#[tactic(auto, unfolding(crate::specs::Classes::three_sum))]
 fn sum(w: u64) -> u64
     ensures { (result ≡ three_sum w) × (result ≤ 33554432) }
 {
     first(w) + (second(w) + third(w))
 }
 
-// 1 for class k itself, 0 for another.
-fn one_if(k: u64, j: u64) -> u64
-    ensures { (result ≡ bit (eqb k j)) × (result ≤ 1) }
-{
-    if k == j {
-        return 1;
-    }
-    0
-}
-
 // The number of classes j, j + 1 and j + 2 with one more in class k.
+#[tactic(auto, using(crate::proofs::Digits::byte_is))]
 fn raised_three(w: u64, k: u64, j: u64) -> u64
     requires { j ≤ last_class }
     ensures { result ≡ three_of (w % base + bit (eqb k j)) (w / base % base + bit (eqb k (j + 1))) (w / base / base + bit (eqb k (j + 2))) }
 {
     three(
-        first(w) + one_if(k, j),
-        second(w) + one_if(k, j + 1),
-        third(w) + one_if(k, j + 2),
+        first(w) + u64::from(k == j),
+        second(w) + u64::from(k == j + 1),
+        third(w) + u64::from(k == j + 2),
     )
 }
 
@@ -94,6 +86,7 @@ impl Classes {
     }
 
     // The counts of classes 0 to 20.
+    #[tactic(auto, unfolding(crate::specs::Classes::counts_of))]
     pub fn listed(self) -> [u64; CLASSES]
         ensures { result ≡ counts_of self }
     {
@@ -123,6 +116,7 @@ impl Classes {
     }
 
     // All counts together.
+    #[tactic(auto, using(crate::proofs::Digits::counts_sum))]
     pub fn total(self) -> u64
         ensures { result ≡ add_up (counts_of self) }
     {

@@ -3,7 +3,6 @@ use mathlib.Core.Path.{◌≡◌, refl, sym, ap, ap₂, subst, ◌∙◌}
 use mathlib.Core.Bool.{Bool, true, false, ◌&&◌, not}
 use mathlib.Core.List.{List}
 use Prim.Native.Nat.{ℕ, ◌≤◌, ◌<◌}
-use native.Mathlib.Omega.{arith}
 use lib.Dec.{leb}
 use lib.IntN.{ℤ, pos, neg_ℤ, ◌+ℤ◌, +ℤ_idr}
 use lib.ListN.{length}
@@ -14,12 +13,13 @@ use Rattle.weight.specs.Mean.{rounded}
 use Rattle.weight.proofs.Nearest.{rounded-within}
 use Rattle.laws.proofs.Tests.{both, and_intro}
 use Rattle.mask.specs.Bits.{bit_set}
-use Rattle.refusal.specs.Table.{value_no, contradiction_no}
+use Rattle.std.specs.Prelude.{Option, None, Some}
+use Rattle.possible.specs.declared.Refusal.TheVariants.{Samples, Value, Contradiction}
 use Rattle.settings.specs.Settings.{record_fit, record_ranged, limits_ordered}
 use Rattle.settings.specs.declared.Settings.{Settings}
 use Rattle.lists.specs.Sums.{sum_of}
 use Rattle.possible.specs.Outcome.{outcome_at}
-use Rattle.possible.specs.Answer.{most_samples, widest, samples_no, count_fits, all_weights, refusal_of, Near, CanBe, IsSet}
+use Rattle.possible.specs.Answer.{most_samples, widest, count_fits, all_weights, refusal_of, Near, CanBe, IsSet}
 use Rattle.possible.specs.Bounds.{sum_at, outcomes_between}
 use Rattle.possible.proofs.Sums.{near_length, low_sum, high_sum, Spread, spread, sum-size}
 use Rattle.possible.proofs.Means.{Climb, means}
@@ -33,16 +33,16 @@ pub record Accepted (xs : List ℤ) (e : ℕ) (s : Settings) : Type 0 where
   pub few : e ≤ widest
   pub fit : record_fit s ≡ true
 
-passed : (h : Bool) (n rest : ℕ) → 0 < n → (when h then n else rest) ≡ 0 → (h ≡ false) × (rest ≡ 0)
-passed true n rest p e = absurd (omega arith)
-passed false n rest p e = (refl, e)
+passed : {A : Type 0} (h : Bool) (r : A) (rest : Option A) → (when h then Some r else rest) ≡ None → (h ≡ false) × (rest ≡ None)
+passed true r rest e = cc
+passed false r rest e = (refl, e)
 
-pub accepted : (xs : List ℤ) (e : ℕ) (s : Settings) → refusal_of xs e s ≡ 0 → Accepted xs e s
+pub accepted : (xs : List ℤ) (e : ℕ) (s : Settings) → refusal_of xs e s ≡ None → Accepted xs e s
 unfolding refusal_of
 accepted xs e s h =
-    let p = passed (not (count_fits (length xs))) samples_no _ (omega arith) h in
-    let q = passed (not (all_weights xs && leb e widest && record_ranged s)) value_no _ (omega arith) p.1 in
-    let r = passed (not (limits_ordered s)) contradiction_no 0 (omega arith) q.1 in
+    let p = passed (not (count_fits (length xs))) Samples _ h in
+    let q = passed (not (all_weights xs && leb e widest && record_ranged s)) Value _ p.1 in
+    let r = passed (not (limits_ordered s)) Contradiction None q.1 in
     let l = both (leb 1 (length xs)) (leb (length xs) most_samples) (not-false _ p.0) in
     let t = both (all_weights xs && leb e widest) (record_ranged s) (not-false _ q.0) in
     let u = both (all_weights xs) (leb e widest) t.0 in

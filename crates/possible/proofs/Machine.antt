@@ -1,25 +1,28 @@
 -- The code's signed numbers, held as bits: its sums and differences fit and are those of the definitions. Assumes nothing.
-use mathlib.Core.Path.{◌≡◌, sym, ap, ◌∙◌}
-use mathlib.Core.Bool.{true, false}
+use mathlib.Core.Path.{◌≡◌, refl, sym, ap, ◌∙◌}
+use mathlib.Core.Bool.{true}
 use mathlib.Core.List.{List, [], ◌∷◌}
 use Prim.Native.Nat.{ℕ, zero, suc, ◌+◌, ◌*◌, ◌^◌, ◌≤◌, ◌<◌}
 use native.Mathlib.Omega.{arith}
-use lib.IntN.{ℤ, pos, neg_ℤ, nat_abs, ◌+ℤ◌, ◌-ℤ◌, +ℤ_assoc, +ℤ_comm, +ℤ_idl, +ℤ_idr}
+use lib.IntN.{ℤ, pos, negsuc, neg_ℤ, nat_abs, ◌+ℤ◌, ◌-ℤ◌, +ℤ_assoc, +ℤ_comm, +ℤ_idl, +ℤ_idr}
 use lib.ListN.{length, get_or, drop, drop_of_length-le}
-use lib.Signed.{le_z}
+use lib.Dec.{ltb}
+use lib.Signed.{lt_z, le_z}
+use Rattle.std.specs.Int.{int_min, int_max}
+use Rattle.laws.specs.Choice.{when◌then◌else◌}
 use mir.Syntax.{w64}
 use mir.Val.{SFits, to_z, of_z}
 use mir.Facts.{to_z-of_z}
 use borrow.Author.Tests.{leb-true}
 use Rattle.laws.proofs.Signed.{to_z_small, sfits_abs, neg_fits, abs_add}
-use Rattle.laws.proofs.Tests.{both, if_ind}
+use Rattle.laws.proofs.Tests.{both, by_cases, if_ind}
 use Rattle.lists.specs.Each.{all_of}
 use Rattle.lists.specs.Sums.{sum_of}
 use Rattle.lists.proofs.Each.{rest}
 use Rattle.weight.specs.Weight.{largest_weight, is_weight}
 use Rattle.settings.specs.Settings.{is_load}
 use Rattle.possible.specs.Answer.{most_samples, widest, all_weights}
-use Rattle.possible.specs.Bounds.{clipped, sum_at, undismissed}
+use Rattle.possible.specs.Bounds.{bottom, top, clipped, sum_at, undismissed}
 use Rattle.possible.proofs.Samples.{clipped-weight}
 
 -- ---- the margin, and less it
@@ -40,6 +43,15 @@ module _ (x d : ℤ) (w : is_weight x ≡ true) (few : nat_abs d ≤ widest) whe
   pub moved_room : nat_abs x + nat_abs d < 2 ^ 63
   moved_room = omega (arith, leb-true (nat_abs x) largest_weight w)
 
+-- a number held within the weights, as the definition tests it
+held_in : (y : ℤ) → int_max bottom (int_min y top) ≡ (when lt_z y bottom then bottom else (when lt_z top y then top else y))
+held_in (pos n) = by_cases (ltb 999999 n) (λ t. rw t refl) (λ t. rw t refl)
+held_in (negsuc n) = by_cases (ltb 999998 n) (λ t. rw t refl) (λ t. rw t refl)
+
+pub clipped_is : (d x : ℤ) → int_max bottom (int_min (x +ℤ d) top) ≡ clipped d x
+unfolding clipped
+clipped_is d x = held_in (x +ℤ d)
+
 -- ---- the first mean that is not dismissed, and the loads
 
 pub undismissed-size : (low nearzero : ℤ) → nat_abs low ≤ 999999 → nat_abs nearzero ≤ 999999 → nat_abs (undismissed low nearzero) ≤ 1000000
@@ -57,19 +69,6 @@ unfolding all_of
 weight-at [] i h l = absurd (omega arith)
 weight-at (x ∷ xs) zero h l = (both (is_weight x) (all_weights xs) h).0
 weight-at (x ∷ xs) (suc i) h l = weight-at xs i (both (is_weight x) (all_weights xs) h).1 (omega arith)
-
-module _ (xs : List ℤ) (i : ℕ) where
-  pub weights-more : i < length xs → is_weight (get_or xs i (pos 0)) ≡ true → all_weights (drop i xs) ≡ all_weights (drop (i + 1) xs)
-  unfolding all_of
-  weights-more h g = rw (rest xs i (pos 0) h, g)
-
-  pub weights-less : i < length xs → is_weight (get_or xs i (pos 0)) ≡ false → all_weights (drop i xs) ≡ false
-  unfolding all_of
-  weights-less h g = rw (rest xs i (pos 0) h, g)
-
-  pub weights-done : length xs ≤ i → all_weights (drop i xs) ≡ true
-  unfolding all_of
-  weights-done h = rw (drop_of_length-le xs h)
 
 -- a sum so far: what is left of the samples makes it the whole sum
 pub record Adding (d : ℤ) (xs : List ℤ) (sum : ℤ) (i : ℕ) : Type 0 where

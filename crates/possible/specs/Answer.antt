@@ -1,5 +1,5 @@
 -- 02, T-12: the call's refusals in their order, and which outcomes samples known within a margin can have.
-use Rattle.std.specs.Prelude.{◌≡◌, Bool, true, ◌&&◌, not, List, [], ◌∷◌, ◌≢◌, ◌↔◌, ℕ, ◌≤◌, leb, ℤ, nat_abs, ◌-ℤ◌, length}
+use Rattle.std.specs.Prelude.{◌≡◌, Bool, true, ◌&&◌, not, List, [], ◌∷◌, ◌↔◌, ℕ, ◌≤◌, leb, ℤ, nat_abs, ◌-ℤ◌, length, Option, None, Some, Result, Ok, Err}
 use Rattle.laws.specs.Choice.{within}
 use Rattle.lists.specs.Each.{all_of}
 use Rattle.weight.specs.Weight.{is_weight}
@@ -8,8 +8,8 @@ use Rattle.refusal.specs.Table.{value_no, contradiction_no, first_holding}
 use Rattle.settings.specs.Settings.{record_ranged, limits_ordered}
 use Rattle.settings.specs.declared.Settings.{Settings}
 use Rattle.possible.specs.Outcome.{outcome_of}
-use Rattle.possible.specs.declared.Outcomes.{Outcomes}
-use Rattle.possible.specs.declared.Outcomes.TheVariants.{Refused, Possible}
+use Rattle.possible.specs.declared.Refusal.{Refusal}
+use Rattle.possible.specs.declared.Refusal.TheVariants.{Samples, Value, Contradiction}
 
 -- "1 to 9,999 samples"
 abbrev pub most_samples : ℕ
@@ -23,6 +23,11 @@ widest = 1000
 abbrev pub samples_no : ℕ
 samples_no = 15
 
+abbrev pub number_of : Refusal → ℕ
+number_of Samples = samples_no
+number_of Value = value_no
+number_of Contradiction = contradiction_no
+
 -- so many samples are not "none or more than 9,999"
 abbrev pub count_fits : ℕ → Bool
 count_fits n = within 1 most_samples n
@@ -30,13 +35,13 @@ count_fits n = within 1 most_samples n
 abbrev pub all_weights : List ℤ → Bool
 all_weights xs = all_of is_weight xs
 
--- 15 "checked before 2. Limits out of order get 4, after 2": the first that holds, 0 if none does
-unfoldable pub refusal_of : List ℤ → ℕ → Settings → ℕ
+-- 15 "checked before 2. Limits out of order get 4, after 2": the first that holds
+unfoldable pub refusal_of : List ℤ → ℕ → Settings → Option Refusal
 refusal_of xs e s =
     first_holding
-    (record { number = samples_no; holds = not (count_fits (length xs)) }
-    ∷ record { number = value_no; holds = not (all_weights xs && leb e widest && record_ranged s) }
-    ∷ record { number = contradiction_no; holds = not (limits_ordered s) }
+    (record { refusal = Samples; holds = not (count_fits (length xs)) }
+    ∷ record { refusal = Value; holds = not (all_weights xs && leb e widest && record_ranged s) }
+    ∷ record { refusal = Contradiction; holds = not (limits_ordered s) }
     ∷ [])
 
 -- "within e of its own and within -999,999 to 999,999"
@@ -59,6 +64,6 @@ pub record CanBe (s : Settings) (e : ℕ) (xs : List ℤ) (k : ℕ) : Type 0 whe
 abbrev pub IsSet : Settings → ℕ → List ℤ → ℕ → Type 0
 IsSet s e xs mask = (k : ℕ) → (bit_set mask k ≡ true) ↔ CanBe s e xs k
 
-abbrev pub Answered : List ℤ → ℕ → Settings → Outcomes → Type 0
-Answered xs e s (Refused n) = (refusal_of xs e s ≡ n) × (n ≢ 0)
-Answered xs e s (Possible mask) = (refusal_of xs e s ≡ 0) × IsSet s e xs mask
+abbrev pub Answered : List ℤ → ℕ → Settings → Result ℕ Refusal → Type 0
+Answered xs e s (Err r) = refusal_of xs e s ≡ Some r
+Answered xs e s (Ok mask) = (refusal_of xs e s ≡ None) × IsSet s e xs mask

@@ -4,18 +4,17 @@
 // whose samples are these within e. It reads one list and a settings record; no line, memory or sheet is in its reach.
 #![tactic(auto)]
 
-ghost use Rattle.std.specs.Prelude.{◌≡◌, true, ◌≤◌, ◌<◌, nat_abs, length};
+ghost use Rattle.std.specs.Prelude.{◌≡◌, true, ◌≤◌, ◌<◌, nat_abs, length, None, Some, MatchResult};
 ghost use Rattle.laws.specs.Choice.{bit};
 ghost use Rattle.weight.specs.Weight.{largest_weight, is_weight};
 ghost use Rattle.weight.specs.Mean.{rounded};
 ghost use Rattle.settings.specs.Settings.{record_fit};
-ghost use Rattle.possible.specs.Answer.{most_samples, widest, count_fits, all_weights, refusal_of, Answered};
+ghost use Rattle.possible.specs.Answer.{most_samples, widest, count_fits, all_weights, number_of, refusal_of, Answered};
 ghost use Rattle.possible.specs.Bounds.{clipped, sum_at, undismissed, grades_between, outcomes_between};
 ghost use Rattle.possible.specs.Exact.{Exact};
 
-use refusal::{CONTRADICTION, VALUE};
 use settings::Settings;
-use weight::{Figure, LARGEST, is_weight, mean_of};
+use weight::{LARGEST, is_weight, mean_of};
 
 // A call has 1 to so many samples.
 pub const MOST_SAMPLES: usize = 9_999;
@@ -23,30 +22,40 @@ pub const MOST_SAMPLES: usize = 9_999;
 // The margin is 0 to this, in divisions.
 pub const WIDEST: u64 = 1_000;
 
-// The number of the refusal that is this call's alone.
-pub const SAMPLES: u64 = 15;
-
-// The number of the refusal; or the mask with bit k for each possible outcome k, 1 to 5 (the grades) and 9 (dismissed).
-#[derive(Clone, Copy)]
-pub enum Outcomes {
-    Refused(u64),
-    Possible(u64),
+// Why a call is refused, in the order of its conditions: how many samples there are, a value out of its range, limits out of order.
+#[derive(Clone, Copy, PartialEq, Eq)]
+pub enum Refusal {
+    Samples,
+    Value,
+    Contradiction,
 }
 
+impl Refusal {
+    // The number that is printed: 15, which is this call's alone, 2 or 4.
+    pub fn number(self) -> u64
+        ensures { result ≡ number_of self }
+    {
+        match self {
+            Refusal::Samples => 15,
+            Refusal::Value => refusal::Refusal::Value.number(),
+            Refusal::Contradiction => refusal::Refusal::Contradiction.number(),
+        }
+    }
+}
+
+// The mask with bit k for each possible outcome k, 1 to 5 (the grades) and 9 (dismissed).
+//
 // Each sum between the least and the largest is one of samples within e, and so is each mean between their means: the
 // possible outcomes are those of the means between. One pass over the samples for each end, and no memory.
-pub fn possible_outcomes(samples: &[i64], e: u64, s: Settings) -> Outcomes
+pub fn possible_outcomes(samples: &[i64], e: u64, s: Settings) -> Result<u64, Refusal>
     ensures { Answered samples.now e s result }
 {
-    let number = refusal(samples, e, s);
-    if number != 0 {
-        return Outcomes::Refused(number);
-    }
+    accept(samples, e, s)?;
     let n = samples.len() as u64;
     let margin = e as i64;
     let low = mean(sum_at(samples, 0 - margin), n);
     let high = mean(sum_at(samples, margin), n);
-    Outcomes::Possible(outcomes_between(s, low, high))
+    Ok(outcomes_between(s, low, high))
 }
 
 // With e = 0 the set has the one outcome of step 6, as a theorem.
@@ -61,43 +70,33 @@ pub fn count_fits(count: usize) -> bool
     (1 <= count) & (count <= MOST_SAMPLES)
 }
 
-// The first condition that holds; 0 if none does.
-fn refusal(samples: &[i64], e: u64, s: Settings) -> u64
-    ensures { result ≡ refusal_of samples.now e s }
+// The first condition that holds refuses.
+fn accept(samples: &[i64], e: u64, s: Settings) -> Result<(), Refusal>
+    ensures { MatchResult result (λ _. refusal_of samples.now e s ≡ None) (λ r. refusal_of samples.now e s ≡ Some r) }
 {
     if !count_fits(samples.len()) {
-        return SAMPLES;
+        return Err(Refusal::Samples);
     }
     if !(all_weights(samples) & (e <= WIDEST) & s.ranged()) {
-        return VALUE;
+        return Err(Refusal::Value);
     }
     if !s.ordered() {
-        return CONTRADICTION;
+        return Err(Refusal::Contradiction);
     }
-    0
+    Ok(())
 }
 
 fn all_weights(samples: &[i64]) -> bool
     ensures { result ≡ all_weights samples.now }
 {
-    let mut i = 0;
-    while i < samples.len() {
-        if !is_weight(samples[i]) {
-            return false;
-        }
-        i += 1;
-    }
-    true
+    samples.iter().all(|x| is_weight(*x))
 }
 
 fn mean(sum: i64, n: u64) -> i64
     requires { 0 < n }
     ensures { result ≡ rounded sum n }
 {
-    let Figure::Of(m) = mean_of(sum, n) else {
-        return 0;
-    };
-    m
+    mean_of(sum, n).unwrap_or(0)
 }
 
 // The sum of the samples, each moved by d and held within the weights.
@@ -105,11 +104,9 @@ fn sum_at(samples: &[i64], d: i64) -> i64
     requires { (all_weights samples.now ≡ true) × (nat_abs d ≤ widest) × (length samples.now ≤ most_samples) }
     ensures { result ≡ sum_at d samples.now }
 {
-    let mut sum: i64 = 0;
-    let mut i = 0;
-    while i < samples.len() {
-        sum += clipped(samples[i], d);
-        i += 1;
+    let mut sum = 0;
+    for x in samples {
+        sum += clipped(*x, d);
     }
     sum
 }
@@ -120,14 +117,7 @@ fn clipped(x: i64, d: i64) -> i64
     ensures { result ≡ clipped d x }
 {
     let most = LARGEST as i64;
-    let y = x + d;
-    if y < 0 - most {
-        return 0 - most;
-    }
-    if most < y {
-        return most;
-    }
-    y
+    (x + d).clamp(0 - most, most)
 }
 
 // The outcomes of the means from low to high.
@@ -143,7 +133,7 @@ fn outcomes_between(s: Settings, low: i64, high: i64) -> u64
     512 * dismissed + grades
 }
 
-// The least mean from low on that is not dismissed.
+// The least mean from low on that is not dismissed: an `if`, as the rule is said, and no `max` of low and nearzero + 1.
 fn undismissed(low: i64, nearzero: i64) -> i64
     requires { nat_abs nearzero ≤ largest_weight }
     ensures { result ≡ undismissed low nearzero }
@@ -167,11 +157,9 @@ fn grades_between(s: Settings, l: i64, h: i64) -> u64
     2 * lolo + 4 * lo + 8 * ok + 16 * hi + 32 * hihi
 }
 
+// The number of a bit: at most 1, which the sums of the bits need.
 fn bit(b: bool) -> u64
     ensures { (result ≡ bit b) × (result ≤ 1) }
 {
-    if b {
-        return 1;
-    }
-    0
+    u64::from(b)
 }

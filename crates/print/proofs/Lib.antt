@@ -1,3 +1,4 @@
 pub mod Put
+pub mod Writes
 pub mod Parts
 pub mod Classes

@@ -1,33 +1,34 @@
 -- Fields that are written one behind the other, and in parts. Assumes nothing.
 use mathlib.Core.Path.{◌≡◌, refl, sym, ap, ◌∙◌}
-use mathlib.Core.List.{List, [], ◌∷◌, ◌++◌, append_assoc}
+use mathlib.Core.List.{List, [], ◌∷◌, ◌++◌, append_assoc, append-nil}
 use Prim.Native.Nat.{ℕ, ◌+◌, ◌≤◌, ◌<◌}
 use native.Mathlib.Omega.{arith}
 use lib.ListN.{length}
 use Rattle.print.specs.Text.{ahead, joined}
-use Rattle.print.specs.Steps.{Wrote}
-use Rattle.print.proofs.Put.{wrote_then, wrote_in, wrote_as, wrote-end}
+use Rattle.print.specs.Steps.{Writes}
+use Rattle.print.specs.declared.lines.Lines.{Lines}
+use Rattle.print.proofs.Writes.{writes_then, writes_in, writes_as}
 
--- a run of fields from a place on, each with `between` in front, and the sum of their rooms
+-- a run of fields, each with `between` in front, and the sum of their rooms
 infixr 20 ◌⨾◌
-pub data Run (between : List ℕ) : List ℕ → ℕ → List (List ℕ) → ℕ → List ℕ → ℕ → Type 0 where
-  last : {b b' : List ℕ} {at r m : ℕ} {f : List ℕ} → Wrote b at (between ++ f) m b' r → Run between b at (f ∷ []) m b' r
-  ◌⨾◌ : {b b' b'' : List ℕ} {at r q m n : ℕ} {f : List ℕ} {fs : List (List ℕ)}
-      → Wrote b at (between ++ f) m b' r → Run between b' r fs n b'' q → Run between b at (f ∷ fs) (m + n) b'' q
+pub data Run (between : List ℕ) : Lines → List (List ℕ) → ℕ → Lines → Type 0 where
+  last : {x y : Lines} {m : ℕ} {f : List ℕ} → Writes x (between ++ f) m y → Run between x (f ∷ []) m y
+  ◌⨾◌ : {x y z : Lines} {m n : ℕ} {f : List ℕ} {fs : List (List ℕ)}
+      → Writes x (between ++ f) m y → Run between y fs n z → Run between x (f ∷ fs) (m + n) z
 
-wrote-run : {between b b' : List ℕ} {at r n : ℕ} {fs : List (List ℕ)} → Run between b at fs n b' r → Wrote b at (ahead between fs) n b' r
-wrote-run {between} (last {f = f} w) = wrote_as (append_assoc between f []) (wrote-end w)
-wrote-run {between} (◌⨾◌ {f = f} {fs = fs} w run) = wrote_as (append_assoc between f (ahead between fs)) (wrote_then w (wrote-run run))
+writes-run : {between : List ℕ} {x y : Lines} {n : ℕ} {fs : List (List ℕ)} → Run between x fs n y → Writes x (ahead between fs) n y
+writes-run {between} (last {f = f} w) = writes_as (ap (λ (l : List ℕ). between ++ l) (sym (append-nil f))) w
+writes-run {between} (◌⨾◌ {f = f} {fs = fs} w run) = writes_as (append_assoc between f (ahead between fs)) (writes_then w (writes-run run))
 
 -- what a run of fields wrote, where there is room for it
-pub wrote-fields : {b b' : List ℕ} {at r n room : ℕ} (between : List ℕ) (fs : List (List ℕ)) → Run between b at fs n b' r → n ≤ room
-    → Wrote b at (ahead between fs) room b' r
-wrote-fields between fs run h = wrote_in h (wrote-run run)
+pub writes-fields : {x y : Lines} {n room : ℕ} (between : List ℕ) (fs : List (List ℕ)) → Run between x fs n y → n ≤ room
+    → Writes x (ahead between fs) room y
+writes-fields between fs run h = writes_in h (writes-run run)
 
 -- and behind a first field
-pub wrote-joined : {b b' b'' : List ℕ} {at r q m n room : ℕ} (between f : List ℕ) (fs : List (List ℕ)) → Wrote b at f m b' r → Run between b' r fs n b'' q
-    → m + n ≤ room → Wrote b at (joined between (f ∷ fs)) room b'' q
-wrote-joined between f fs w run h = wrote_in h (wrote_then w (wrote-run run))
+pub writes-joined : {x y z : Lines} {m n room : ℕ} (between f : List ℕ) (fs : List (List ℕ)) → Writes x f m y → Run between y fs n z
+    → m + n ≤ room → Writes x (joined between (f ∷ fs)) room z
+writes-joined between f fs w run h = writes_in h (writes_then w (writes-run run))
 
 -- parts of fields
 module _ (between : List ℕ) where

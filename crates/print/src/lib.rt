@@ -2,7 +2,7 @@
 #![tactic(auto)]
 
 mod buffer;
-mod field;
+mod lines;
 mod place;
 mod reply;
 mod report;

@@ -5,7 +5,7 @@ ghost use Rattle.decimal.specs.Number.{decimal};
 ghost use Rattle.print.specs.Steps.{WroteIfRoom, value_room};
 
 use crate::buffer::put;
-use crate::field::put_count;
+use crate::lines::Lines;
 
 // No value is longer, in bytes.
 const VALUE_ROOM: usize = 20;
@@ -39,5 +39,7 @@ pub fn count_at(out: &mut [u8], at: usize, key: &[u8], n: u64) -> usize
     if !has_room(out.len() - VALUE_ROOM, at, key.len()) {
         return at;
     }
-    put_count(out, at, key, n)
+    let mut lines = Lines { out: out, at: at };
+    lines.put_count(key, n);
+    lines.at
 }

@@ -1,15 +1,14 @@
 // The line of a reply.
-ghost use Rattle.std.specs.Prelude.{◌≡◌, ◌+◌, ◌≤◌, length};
+ghost use Rattle.std.specs.Prelude.{◌≡◌, ◌++◌, ◌+◌, ◌≤◌, length};
 ghost use Rattle.decimal.specs.Bytes.{bytes};
 ghost use Rattle.print.specs.Text.{ahead, joined};
 ghost use Rattle.print.specs.Reply.{error_text, shown, did, done_text, refused_text, reply_text, reply_room};
 ghost use Rattle.print.specs.Written.{buffer_after, length_written};
-ghost use Rattle.print.specs.Steps.{Wrote, Field, value_room};
+ghost use Rattle.print.specs.Steps.{Writes, value_room};
 
 use crate::REPLY_ROOM;
-use crate::buffer::put;
-use crate::field::{put_count, put_none, put_number};
-use event::{Done, Reply};
+use crate::lines::Lines;
+use event::{Done, Refused, Reply};
 
 // The reply as a line at the front of `out`, and its length. A buffer of less than its room is left as it is, and the answer
 // is 0.
@@ -20,57 +19,67 @@ pub fn reply_line(out: &mut [u8], r: Reply) -> usize
     if out.len() < REPLY_ROOM {
         return 0;
     }
+    let mut lines = Lines { out: out, at: 0 };
+    put_reply(&mut lines, r);
+    lines.at
+}
+
+fn put_reply(lines: &mut Lines, r: Reply)
+    requires { lines.old.at + 252 ≤ length lines.old.out.now }
+    ensures { Writes lines.old (reply_text r) 252 lines.new }
+{
     match r {
-        Reply::Refused { number, input } => put_refused(out, number, input),
-        Reply::Done(d) => put_done(out, d),
+        Ok(done) => put_done(lines, done),
+        Err(refused) => put_refused(lines, refused),
     }
 }
 
-fn put_refused(out: &mut [u8], number: u64, input: u64) -> usize
-    requires { 56 ≤ length out.old }
-    ensures { Wrote out.old 0 (refused_text number input) 56 out.new result }
+fn put_refused(lines: &mut Lines, r: Refused)
+    requires { lines.old.at + 56 ≤ length lines.old.out.now }
+    ensures { Writes lines.old (refused_text r.number r.input) 56 lines.new }
 {
-    let a = put_count(out, 0, b"refused=", number);
-    let b = put_count(out, a, b" input=", input);
-    put(out, b, b"\n")
+    lines.put_count(b"refused=", r.number);
+    lines.put_count(b" input=", r.input);
+    lines.end_line();
 }
 
-fn put_done(out: &mut [u8], d: Done) -> usize
-    requires { 252 ≤ length out.old }
-    ensures { Wrote out.old 0 (done_text d) 252 out.new result }
+fn put_done(lines: &mut Lines, d: Done)
+    requires { lines.old.at + 252 ≤ length lines.old.out.now }
+    ensures { Writes lines.old (done_text d) 252 lines.new }
 {
-    let next = put_shown(out, d);
-    let end = put_did(out, next, d);
-    put(out, end, b"\n")
+    put_shown(lines, d);
+    put_did(lines, d);
+    lines.end_line();
 }
 
-fn put_shown(out: &mut [u8], d: Done) -> usize
-    requires { 111 ≤ length out.old }
-    ensures { Wrote out.old 0 (joined (bytes " ") (shown d)) 111 out.new result }
+fn put_shown(lines: &mut Lines, d: Done)
+    requires { lines.old.at + 111 ≤ length lines.old.out.now }
+    ensures { Writes lines.old (joined (bytes " ") (shown d)) 111 lines.new }
 {
-    let a = put_count(out, 0, b"status=", d.status);
-    let b = put_count(out, a, b" busy=", d.busy);
-    let c = put_count(out, b, b" conveyor=", d.conveyor);
-    put_count(out, c, b" sorter=", d.sorter)
+    lines.put_count(b"status=", d.status);
+    lines.put_count(b" busy=", d.busy);
+    lines.put_count(b" conveyor=", d.conveyor);
+    lines.put_count(b" sorter=", d.sorter);
 }
 
-fn put_did(out: &mut [u8], at: usize, d: Done) -> usize
-    requires { at + 140 ≤ length out.old }
-    ensures { Wrote out.old at (ahead (bytes " ") (did d)) 140 out.new result }
+fn put_did(lines: &mut Lines, d: Done)
+    requires { lines.old.at + 140 ≤ length lines.old.out.now }
+    ensures { Writes lines.old (ahead (bytes " ") (did d)) 140 lines.new }
 {
-    let a = put_count(out, at, b" detected=", d.detected);
-    let b = put_count(out, a, b" outcome=", d.outcome);
-    let c = put_number(out, b, b" net=", d.net);
-    let e = put_count(out, c, b" tallied=", d.tallied);
-    put_error(out, e, b" error=", d.error)
+    lines.put_count(b" detected=", d.detected);
+    lines.put_count(b" outcome=", d.outcome);
+    lines.put_number(b" net=", d.net);
+    lines.put_count(b" tallied=", d.tallied);
+    put_error(lines, b" error=", d.error);
 }
 
-fn put_error(out: &mut [u8], at: usize, key: &[u8], error: u64) -> usize
-    requires { at + length key.now + value_room ≤ length out.old }
-    ensures { Field out.old at key.now (error_text error) out.new result }
+fn put_error(lines: &mut Lines, key: &[u8], error: u64)
+    requires { lines.old.at + length key.now + value_room ≤ length lines.old.out.now }
+    ensures { Writes lines.old (key.now ++ error_text error) (length key.now + value_room) lines.new }
 {
     if error == Done::NO_ERROR {
-        return put_none(out, at, key);
+        lines.put_none(key);
+    } else {
+        lines.put_count(key, error);
     }
-    put_count(out, at, key, error)
 }

@@ -4,11 +4,10 @@ ghost use Rattle.part.specs.Class.{last_class};
 ghost use Rattle.print.specs.Text.{line_end, ahead, joined};
 ghost use Rattle.print.specs.Sheet.{totals, grades, faults, weight_figures, spreads, class_field, classes_from, sheet_text, sheet_room};
 ghost use Rattle.print.specs.Written.{buffer_after, length_written};
-ghost use Rattle.print.specs.Steps.{Wrote};
+ghost use Rattle.print.specs.Steps.{Writes};
 
 use crate::SHEET_ROOM;
-use crate::buffer::put;
-use crate::field::{put_count, put_figure, put_number, put_spread};
+use crate::lines::Lines;
 use part::CLASSES;
 use sheet::Sheet;
 
@@ -21,89 +20,86 @@ pub fn sheet_lines(out: &mut [u8], code: u64, s: Sheet) -> usize
     if out.len() < SHEET_ROOM {
         return 0;
     }
-    let a = put_totals(out, code, s);
-    let b = put_grades(out, a, s);
-    let c = put_faults(out, b, s);
-    let d = put_weights(out, c, s);
-    let e = put_spreads(out, d, s);
-    let classes = s.classes;
-    let f = put_classes(out, e, classes);
-    put(out, f, b"\n")
+    let mut lines = Lines { out: out, at: 0 };
+    put_sheet(&mut lines, code, s);
+    lines.at
 }
 
-fn put_totals(out: &mut [u8], code: u64, s: Sheet) -> usize
-    requires { 76 ≤ length out.old }
-    ensures { Wrote out.old 0 (joined line_end (totals code s)) 76 out.new result }
+fn put_sheet(lines: &mut Lines, code: u64, s: Sheet)
+    requires { lines.old.at + 1077 ≤ length lines.old.out.now }
+    ensures { Writes lines.old (sheet_text code s) 1077 lines.new }
 {
-    let a = put_count(out, 0, b"code=", code);
-    let b = put_count(out, a, b"\ntotal=", s.total);
-    put_count(out, b, b"\nng=", s.ng)
+    put_totals(lines, code, s);
+    put_grades(lines, s);
+    put_faults(lines, s);
+    put_weights(lines, s);
+    put_spreads(lines, s);
+    put_classes(lines, s.classes);
+    lines.end_line();
 }
 
-fn put_grades(out: &mut [u8], at: usize, s: Sheet) -> usize
-    requires { at + 124 ≤ length out.old }
-    ensures { Wrote out.old at (ahead line_end (grades s)) 124 out.new result }
+fn put_totals(lines: &mut Lines, code: u64, s: Sheet)
+    requires { lines.old.at + 76 ≤ length lines.old.out.now }
+    ensures { Writes lines.old (joined line_end (totals code s)) 76 lines.new }
 {
-    let a = put_count(out, at, b"\nlolo=", s.lolo);
-    let b = put_count(out, a, b"\nlo=", s.lo);
-    let c = put_count(out, b, b"\nok=", s.ok);
-    let d = put_count(out, c, b"\nhi=", s.hi);
-    put_count(out, d, b"\nhihi=", s.hihi)
+    lines.put_count(b"code=", code);
+    lines.put_count(b"\ntotal=", s.total);
+    lines.put_count(b"\nng=", s.ng);
 }
 
-fn put_faults(out: &mut [u8], at: usize, s: Sheet) -> usize
-    requires { at + 84 ≤ length out.old }
-    ensures { Wrote out.old at (ahead line_end (faults s)) 84 out.new result }
+fn put_grades(lines: &mut Lines, s: Sheet)
+    requires { lines.old.at + 124 ≤ length lines.old.out.now }
+    ensures { Writes lines.old (ahead line_end (grades s)) 124 lines.new }
 {
-    let a = put_count(out, at, b"\nforeign=", s.foreign);
-    let b = put_count(out, a, b"\ndouble=", s.double);
-    put_count(out, b, b"\ncrash=", s.crash)
+    lines.put_count(b"\nlolo=", s.lolo);
+    lines.put_count(b"\nlo=", s.lo);
+    lines.put_count(b"\nok=", s.ok);
+    lines.put_count(b"\nhi=", s.hi);
+    lines.put_count(b"\nhihi=", s.hihi);
 }
 
-fn put_weights(out: &mut [u8], at: usize, s: Sheet) -> usize
-    requires { at + 132 ≤ length out.old }
-    ensures { Wrote out.old at (ahead line_end (weight_figures s)) 132 out.new result }
+fn put_faults(lines: &mut Lines, s: Sheet)
+    requires { lines.old.at + 84 ≤ length lines.old.out.now }
+    ensures { Writes lines.old (ahead line_end (faults s)) 84 lines.new }
 {
-    let max = s.max;
-    let min = s.min;
-    let mean = s.mean;
-    let deviation = s.deviation;
-    let a = put_figure(out, at, b"\nmax=", max);
-    let b = put_figure(out, a, b"\nmin=", min);
-    let c = put_number(out, b, b"\nsum=", s.sum);
-    let d = put_figure(out, c, b"\nmean=", mean);
-    put_figure(out, d, b"\ndeviation=", deviation)
+    lines.put_count(b"\nforeign=", s.foreign);
+    lines.put_count(b"\ndouble=", s.double);
+    lines.put_count(b"\ncrash=", s.crash);
 }
 
-fn put_spreads(out: &mut [u8], at: usize, s: Sheet) -> usize
-    requires { at + 51 ≤ length out.old }
-    ensures { Wrote out.old at (ahead line_end (spreads s)) 51 out.new result }
+fn put_weights(lines: &mut Lines, s: Sheet)
+    requires { lines.old.at + 132 ≤ length lines.old.out.now }
+    ensures { Writes lines.old (ahead line_end (weight_figures s)) 132 lines.new }
 {
-    let sd = s.sd;
-    let sdp = s.sdp;
-    let a = put_spread(out, at, b"\nsd=", sd);
-    put_spread(out, a, b"\nsdp=", sdp)
+    lines.put_figure(b"\nmax=", s.max);
+    lines.put_figure(b"\nmin=", s.min);
+    lines.put_number(b"\nsum=", s.sum);
+    lines.put_figure(b"\nmean=", s.mean);
+    lines.put_figure(b"\ndeviation=", s.deviation);
+}
+
+fn put_spreads(lines: &mut Lines, s: Sheet)
+    requires { lines.old.at + 51 ≤ length lines.old.out.now }
+    ensures { Writes lines.old (ahead line_end (spreads s)) 51 lines.new }
+{
+    lines.put_spread(b"\nsd=", s.sd);
+    lines.put_spread(b"\nsdp=", s.sdp);
 }
 
 // Class 0 to class 20, each in a line of its own.
-fn put_classes(out: &mut [u8], at: usize, classes: [u64; CLASSES]) -> usize
-    requires { at + 609 ≤ length out.old }
-    ensures { Wrote out.old at (ahead line_end (classes_from 0 classes)) 609 out.new result }
+fn put_classes(lines: &mut Lines, classes: [u64; CLASSES])
+    requires { lines.old.at + 609 ≤ length lines.old.out.now }
+    ensures { Writes lines.old (ahead line_end (classes_from 0 classes)) 609 lines.new }
 {
-    let mut end = at;
-    let mut k = 0;
-    while k < CLASSES {
-        let n = classes[k];
-        end = put_class(&mut *out, end, k as u64, n);
-        k += 1;
+    for (k, n) in classes.iter().enumerate() {
+        put_class(lines, k as u64, *n);
     }
-    end
 }
 
-fn put_class(out: &mut [u8], at: usize, k: u64, n: u64) -> usize
-    requires { (at + 29 ≤ length out.old) × (k ≤ last_class) }
-    ensures { Wrote out.old at (line_end ++ class_field k n) 29 out.new result }
+fn put_class(lines: &mut Lines, k: u64, n: u64)
+    requires { (lines.old.at + 29 ≤ length lines.old.out.now) × (k ≤ last_class) }
+    ensures { Writes lines.old (line_end ++ class_field k n) 29 lines.new }
 {
-    let number = put_count(out, at, b"\nclass", k);
-    put_count(out, number, b"=", n)
+    lines.put_count(b"\nclass", k);
+    lines.put_count(b"=", n);
 }

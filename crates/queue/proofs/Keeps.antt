@@ -1,6 +1,6 @@
 -- What a queue keeps: its waits stay from 1 to 9,999 and at most eight. Assumes nothing.
 use mathlib.Core.Path.{◌≡◌, refl}
-use mathlib.Core.Bool.{Bool, true, false, ◌||◌, not}
+use mathlib.Core.Bool.{true, false, ◌||◌, not}
 use mathlib.Core.List.{List, [], ◌∷◌, ◌++◌, map}
 use Prim.Native.Nat.{ℕ, ◌≤◌}
 use native.Mathlib.Omega.{arith}
@@ -8,7 +8,7 @@ use lib.Dec.{leb}
 use lib.ListN.{length, length-append, length-map, length-take}
 use borrow.Author.Tests.{leb-true, le-leb, leb-false, eqb-false}
 use Rattle.laws.specs.Choice.{within}
-use Rattle.laws.proofs.Tests.{both, and_intro, if_ind}
+use Rattle.laws.proofs.Tests.{both, neither, and_intro, if_ind}
 use Rattle.lists.specs.Each.{all_of, without}
 use Rattle.lists.proofs.Each.{all_more, without-short, without_keeps}
 use Rattle.time.specs.Time.{longest, is_time, fallen, ended}
@@ -44,10 +44,6 @@ queue_ticked-fit q h =
     (λ _. h)
     (λ _. laid-fit (without ended fell) 1 few (without_keeps ended (within 1 longest) fallen still-fit (waits_of q) b.1))
 
-or_false_left : (a b : Bool) → a || b ≡ false → a ≡ false
-or_false_left true b h = h
-or_false_left false b h = refl
-
 pub joined-fit : (q : Queue) (ts shortest : ℕ) → within shortest longest ts ≡ true → queue_fit q shortest ≡ true → queue_fit (joined q ts) shortest ≡ true
 unfolding joined is_full all_of waiting
 joined-fit q ts shortest t h =
@@ -55,5 +51,5 @@ joined-fit q ts shortest t h =
     if_ind (λ (k : Queue). queue_fit k shortest ≡ true) (is_full q || not (is_time ts)) _ _
     (λ _. h)
     (λ f. laid-fit (waits_of q ++ ts ∷ []) shortest
-    (omega (arith, length-append (waits_of q) (ts ∷ []), leb-false places (waiting q) (or_false_left (is_full q) _ f)))
+    (omega (arith, length-append (waits_of q) (ts ∷ []), leb-false places (waiting q) (neither (is_full q) _ f).0))
     (all_more (within shortest longest) (waits_of q) (ts ∷ []) b.1 (and_intro t refl)))

@@ -3,7 +3,7 @@
 use mathlib.Core.Path.{◌≡◌, refl, sym, ◌∙◌}
 use mathlib.Core.Bool.{true, false, not}
 use mathlib.Core.List.{List, [], ◌∷◌, ◌++◌, map}
-use Prim.Native.Nat.{ℕ, ◌+◌, min}
+use Prim.Native.Nat.{ℕ, ◌+◌, ◌≤◌, ◌<◌, min}
 use native.Mathlib.Omega.{arith}
 use lib.Dec.{eqb, ltb, leb}
 use lib.ListN.{length, take, length-append, length-take, length-map}
@@ -41,12 +41,12 @@ pub ends_fewer : (q : Queue) → one_ends q ≡ ltb (waiting (queue_ticked q)) (
 unfolding one_ends waiting
 ends_fewer q = one_less ended (map fallen (waits_of q)) ∙ rw (waits-ticked q, length-map)
 
-pub empty-stays : (q : Queue) → is_empty q ≡ true → queue_ticked q ≡ q
+pub empty_stays : (q : Queue) → is_empty q ≡ true → queue_ticked q ≡ q
 unfolding queue_ticked
-empty-stays q h = rw h
+empty_stays q h = rw h
 
-pub none-ends : (q : Queue) → is_empty q ≡ true → one_ends q ≡ false
-none-ends q h = ends_fewer q ∙ rw (empty-stays q h) (le-ltb (waiting q) (waiting q) (omega arith))
+pub none_ends : (q : Queue) → is_empty q ≡ true → one_ends q ≡ false
+none_ends q h = ends_fewer q ∙ rw (empty_stays q h) (le-ltb (waiting q) (waiting q) (omega arith))
 
 -- ---- one joins
 
@@ -70,27 +70,36 @@ joined-waiting q ts t =
     (λ h. rw (none-joins q ts h, h) (omega arith))
     (λ h. rw h (one_more_lem q ts h t))
 
+-- a queue that is not full has a place free
+pub one_fits : (q : Queue) → is_full q ≡ false → length (waits_of q) < places
+unfolding is_full waiting
+one_fits q h = leb-false places (length (waits_of q)) h
+
 -- ---- the number n
 
-pub waits-counted : (q : Queue) → take (waiting q) q.waits ≡ waits_of q
+pub waits_counted : (q : Queue) → take (waiting q) q.waits ≡ waits_of q
 unfolding waiting waits_of
-waits-counted q = take_counted q.n q.waits
+waits_counted q = take_counted q.n q.waits
 
 module _ (q : Queue) (h : length q.waits ≡ places) where
-  pub waiting-is : waiting q ≡ min q.n places
-  unfolding waiting waits_of
-  waiting-is = omega (arith, length-take q.n q.waits)
+  pub few_waits : length (waits_of q) ≤ places
+  unfolding waits_of
+  few_waits = omega (arith, length-take q.n q.waits)
 
-  pub empty-is : eqb q.n 0 ≡ is_empty q
+  pub waiting_is : waiting q ≡ min q.n places
+  unfolding waiting waits_of
+  waiting_is = omega (arith, length-take q.n q.waits)
+
+  pub empty_is : eqb q.n 0 ≡ is_empty q
   unfolding is_empty
-  empty-is =
+  empty_is =
       by_cases (eqb q.n 0)
-      (λ t. t ∙ sym (eq-eqb (waiting q) 0 (omega (arith, waiting-is, eqb-true q.n 0 t))))
-      (λ t. t ∙ sym (ne_eqb (waiting q) 0 (λ e. eqb-false q.n 0 t (omega (arith, waiting-is)))))
+      (λ t. t ∙ sym (eq-eqb (waiting q) 0 (omega (arith, waiting_is, eqb-true q.n 0 t))))
+      (λ t. t ∙ sym (ne_eqb (waiting q) 0 (λ e. eqb-false q.n 0 t (omega (arith, waiting_is)))))
 
   pub full_is : leb places q.n ≡ is_full q
   unfolding is_full
   full_is =
       by_cases (leb places q.n)
-      (λ t. t ∙ sym (le-leb places (waiting q) (omega (arith, waiting-is, leb-true places q.n t))))
-      (λ t. t ∙ sym (lt-leb places (waiting q) (omega (arith, waiting-is, leb-false places q.n t))))
+      (λ t. t ∙ sym (le-leb places (waiting q) (omega (arith, waiting_is, leb-true places q.n t))))
+      (λ t. t ∙ sym (lt-leb places (waiting q) (omega (arith, waiting_is, leb-false places q.n t))))

@@ -1,9 +1,12 @@
 // A queue of waits: the first n places are taken, in the order in which the waits came. The others hold 0 and are not read.
-// A wait is a time, so sixteen bits hold it: a line is copied with each event.
+// A wait is a time, so sixteen bits hold it: a line is copied with each event. Places and a number beside them, since there is
+// no heap, and an unfit number comes in and is to be refused.
 #![tactic(auto)]
 
 ghost use Rattle.std.specs.Prelude.{◌≡◌, []};
-ghost use Rattle.queue.specs.Queue.{laid, waiting, is_empty, is_full, queue_ticked, joined, queue_fit};
+ghost use Rattle.laws.specs.Choice.{within};
+ghost use Rattle.time.specs.Time.{longest};
+ghost use Rattle.queue.specs.Queue.{waits_of, laid, waiting, is_empty, is_full, queue_ticked, joined, queue_fit};
 
 use time::{LONGEST, is_time};
 
@@ -13,16 +16,22 @@ pub struct Queue {
     pub n: u64,
 }
 
-fn wide(wait: u16) -> u64
-    ensures { result ≡ wait }
+// A wait of so many ticks ends on this one.
+const LAST_TICK: u16 = 1;
+
+// From the shortest to the longest time.
+fn within(wait: u16, shortest: u64) -> bool
+    ensures { result ≡ within shortest longest wait }
 {
-    wait as u64
+    let wait = u64::from(wait);
+    (shortest <= wait) & (wait <= LONGEST)
 }
 
 impl Queue {
     // how many waits it takes
     pub const PLACES: u64 = 8;
 
+    #[tactic(auto, unfolding(crate::specs::Queue::laid))]
     pub fn empty() -> Queue
         ensures { result ≡ laid [] }
     {
@@ -32,6 +41,7 @@ impl Queue {
         }
     }
 
+    #[tactic(auto, using(crate::proofs::Waits::empty_is))]
     pub fn is_empty(self) -> bool
         ensures { result ≡ is_empty self }
     {
@@ -39,15 +49,22 @@ impl Queue {
     }
 
     // How many wait: of an unfit n no more than there are places.
+    #[tactic(auto, using(crate::proofs::Waits::waiting_is))]
     pub fn waiting(self) -> u64
         ensures { result ≡ waiting self }
     {
-        if Queue::PLACES < self.n {
-            return Queue::PLACES;
-        }
-        self.n
+        self.n.min(Queue::PLACES)
     }
 
+    // The waits.
+    #[tactic(auto, using(crate::proofs::Waits::waiting_is, crate::proofs::Waits::waits_counted))]
+    pub fn taken(&self) -> &[u16]
+        ensures { result.now ≡ waits_of self.now }
+    {
+        &self.waits[..self.waiting() as usize]
+    }
+
+    #[tactic(auto, using(crate::proofs::Waits::full_is))]
     pub fn is_full(self) -> bool
         ensures { result ≡ is_full self }
     {
@@ -58,21 +75,16 @@ impl Queue {
     pub fn ticked(self) -> Queue
         ensures { result ≡ queue_ticked self }
     {
-        if self.n == 0 {
+        if self.is_empty() {
             return self;
         }
-        let waits = self.waits;
-        let n = self.waiting() as usize;
         let mut left = [0u16; Queue::PLACES as usize];
         let mut k: usize = 0;
-        let mut i: usize = 0;
-        while i < n {
-            let wait = waits[i];
-            if 1 < wait {
-                left[k] = wait - 1;
+        for wait in self.taken() {
+            if LAST_TICK < *wait {
+                left[k] = *wait - 1;
                 k += 1;
             }
-            i += 1;
         }
         Queue {
             waits: left,
@@ -84,24 +96,17 @@ impl Queue {
     pub fn joined(self, ts: u64) -> Queue
         ensures { result ≡ joined self ts }
     {
-        if Queue::PLACES <= self.n {
+        if self.is_full() | !is_time(ts) {
             return self;
         }
-        if !is_time(ts) {
-            return self;
-        }
-        let waits = self.waits;
-        let n = self.n as usize;
+        let waits = self.taken();
+        let n = waits.len();
         let mut all = [0u16; Queue::PLACES as usize];
-        let mut i: usize = 0;
-        while i < n {
-            all[i] = waits[i];
-            i += 1;
-        }
+        all[..n].copy_from_slice(waits);
         all[n] = ts as u16;
         Queue {
             waits: all,
-            n: self.n + 1,
+            n: n as u64 + 1,
         }
     }
 
@@ -109,22 +114,9 @@ impl Queue {
     pub fn fit(self, shortest: u64) -> bool
         ensures { result ≡ queue_fit self shortest }
     {
-        if self.n == 0 {
-            return true;
-        }
         if Queue::PLACES < self.n {
             return false;
         }
-        let waits = self.waits;
-        let n = self.n as usize;
-        let mut i: usize = 0;
-        while i < n {
-            let wait = wide(waits[i]);
-            if !((shortest <= wait) & (wait <= LONGEST)) {
-                return false;
-            }
-            i += 1;
-        }
-        true
+        self.taken().iter().all(|wait| within(*wait, shortest))
     }
 }

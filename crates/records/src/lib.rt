@@ -10,14 +10,14 @@ use settings::Settings;
 pub fn read(records: &[Settings], code: u64) -> Settings
     ensures { result ≡ get_or records.now code blank }
 {
-    let at = code as usize;
-    if at < records.len() {
-        return records[at];
-    }
-    Settings::blank()
+    let Some(record) = records.get(code as usize) else {
+        return Settings::blank();
+    };
+    *record
 }
 
-// Code's record becomes s; past the end nothing is written.
+// Code's record becomes s; past the end nothing is written. A test and a store: of the slice after `get_mut` the library
+// says nothing.
 pub fn write(records: &mut [Settings], code: u64, s: Settings)
     ensures { records.new ≡ set records.old code s }
 {

@@ -6,8 +6,6 @@ use Rattle.event.specs.Kind.{is_sample, is_run, is_stop, is_cancel, is_setup, is
 use Rattle.event.specs.declared.Event.{Event}
 use Rattle.status.specs.Status.{stopped, running, paused, emergency}
 use Rattle.tallies.specs.Memory.{tallies_length}
-use Rattle.laws.specs.Choice.{when◌then◌else◌}
-use Rattle.refusal.specs.Table.{status_no, emergency_no, paused_no}
 
 -- no. 8 memory: "not 100 settings, tallies of a wrong length"; count is the number of settings records
 unfoldable pub lengths_wrong : ℕ → List ℤ → Bool
@@ -21,15 +19,18 @@ reads_record e = is_run e || is_sample e
 unfoldable pub reads_tally : Event → Bool
 reads_tally e = is_sample e || is_cancel e
 
--- no. 3 status, 9 emergency, 10 paused, or 0 where the status lets the event pass.
--- 01: "run while running or in emergency; stop in emergency; setup unless stopped; store while running";
--- 02, T-07: "Refusal 3 remains for running. In emergency run, stop and setup get 9. Setup while paused gets 10."
-unfoldable pub status_refusal : ℕ → Event → ℕ
-status_refusal s e =
-    when (is_run e || is_setup e || is_store e) && eqb s running then status_no
-    else (when (is_run e || is_stop e || is_setup e) && eqb s emergency then emergency_no
-    else (when is_setup e && eqb s paused then paused_no
-    else 0))
+-- no. 3 status: "run while running or in emergency; stop in emergency; setup unless stopped; store while running";
+-- 02, T-07: "Refusal 3 remains for running."
+unfoldable pub refused_running : ℕ → Event → Bool
+refused_running s e = (is_run e || is_setup e || is_store e) && eqb s running
+
+-- no. 9 emergency: "In emergency run, stop and setup get 9."
+unfoldable pub refused_in_emergency : ℕ → Event → Bool
+refused_in_emergency s e = (is_run e || is_stop e || is_setup e) && eqb s emergency
+
+-- no. 10 paused: "Setup while paused gets 10."
+unfoldable pub refused_paused : ℕ → Event → Bool
+refused_paused s e = is_setup e && eqb s paused
 
 -- no. 5 safety: "run with a bit of need 0 in the last sample's safety"; input is the lowest required input that is off there, 0 if none is
 unfoldable pub run_unsafe : ℕ → Event → Bool

@@ -1,7 +1,9 @@
 -- 01, "Refusal numbers of the manual's kind": the table, "checked in this order, first one wins".
-use Rattle.std.specs.Prelude.{ℕ, Bool, List, [], ◌∷◌, eqb}
+use Rattle.std.specs.Prelude.{ℕ, Bool, List, [], ◌∷◌, Option, Some, None}
 use Rattle.laws.specs.Choice.{when◌then◌else◌}
 use Rattle.refusal.specs.declared.Faults.{Faults}
+use Rattle.refusal.specs.declared.Refusal.{Refusal}
+use Rattle.refusal.specs.declared.Refusal.TheVariants.{Memory, Form, Value, Status, Emergency, Paused, Contradiction, Safety, Occupied, Nothing}
 
 -- the column "no."
 abbrev pub memory_no : ℕ
@@ -35,27 +37,44 @@ occupied_no = 6
 abbrev pub nothing_no : ℕ
 nothing_no = 7
 
--- a line of the table
-pub record Rule : Type 0 where
-  pub number : ℕ
+abbrev pub number_of : Refusal → ℕ
+number_of Memory = memory_no
+number_of Form = form_no
+number_of Value = value_no
+number_of Status = status_no
+number_of Emergency = emergency_no
+number_of Paused = paused_no
+number_of Contradiction = contradiction_no
+number_of Safety = safety_no
+number_of Occupied = occupied_no
+number_of Nothing = nothing_no
+
+-- the number that a reply has: 0 where nothing refuses
+abbrev pub number_in : Option Refusal → ℕ
+number_in None = 0
+number_in (Some r) = number_of r
+
+-- a line of a table: what refuses, and whether its condition holds
+pub record Rule (A : Type 0) : Type 0 where
+  pub refusal : A
   pub holds : Bool
 
--- the table in its order, with 02's two rows behind 3: the status condition answers its number
-abbrev pub table : Faults → List Rule
+-- the table in its order, with 02's two rows behind 3
+abbrev pub table : Faults → List (Rule Refusal)
 table f =
-    record { number = memory_no; holds = f.memory }
-    ∷ record { number = form_no; holds = f.form }
-    ∷ record { number = value_no; holds = f.value }
-    ∷ record { number = status_no; holds = eqb f.status status_no }
-    ∷ record { number = emergency_no; holds = eqb f.status emergency_no }
-    ∷ record { number = paused_no; holds = eqb f.status paused_no }
-    ∷ record { number = contradiction_no; holds = f.contradiction }
-    ∷ record { number = safety_no; holds = f.safety }
-    ∷ record { number = occupied_no; holds = f.occupied }
-    ∷ record { number = nothing_no; holds = f.nothing }
+    record { refusal = Memory; holds = f.memory }
+    ∷ record { refusal = Form; holds = f.form }
+    ∷ record { refusal = Value; holds = f.value }
+    ∷ record { refusal = Status; holds = f.running }
+    ∷ record { refusal = Emergency; holds = f.emergency }
+    ∷ record { refusal = Paused; holds = f.paused }
+    ∷ record { refusal = Contradiction; holds = f.contradiction }
+    ∷ record { refusal = Safety; holds = f.safety }
+    ∷ record { refusal = Occupied; holds = f.occupied }
+    ∷ record { refusal = Nothing; holds = f.nothing }
     ∷ []
 
--- the number of the first rule that holds, 0 if none does
-abbrev pub first_holding : List Rule → ℕ
-first_holding [] = 0
-first_holding (r ∷ rs) = when r.holds then r.number else first_holding rs
+-- the first rule that holds refuses
+abbrev pub first_holding : {A : Type 0} → List (Rule A) → Option A
+first_holding [] = None
+first_holding (r ∷ rs) = when r.holds then Some r.refusal else first_holding rs

@@ -1,36 +1,30 @@
-// The refusals, in the order of the table: the first condition that holds gives the number.
+// The refusals, in the order of the table: the first condition that holds refuses.
 #![tactic(auto)]
 
 ghost use Rattle.std.specs.Prelude.{◌≡◌};
-ghost use Rattle.refusal.specs.Table.{first_holding, table};
+ghost use Rattle.refusal.specs.Table.{first_holding, number_of, table};
 
 mod rows;
 
 pub use rows::{
-    lengths_wrong, nothing_to_cancel, reads_record, reads_tally, run_occupied, run_unsafe,
-    status_refusal,
+    lengths_wrong, nothing_to_cancel, reads_record, reads_tally, refused_in_emergency,
+    refused_paused, refused_running, run_occupied, run_unsafe,
 };
 
-// The numbers of the table, in its order.
-pub const MEMORY: u64 = 8;
-
-pub const FORM: u64 = 1;
-
-pub const VALUE: u64 = 2;
-
-pub const STATUS: u64 = 3;
-
-pub const EMERGENCY: u64 = 9;
-
-pub const PAUSED: u64 = 10;
-
-pub const CONTRADICTION: u64 = 4;
-
-pub const SAFETY: u64 = 5;
-
-pub const OCCUPIED: u64 = 6;
-
-pub const NOTHING: u64 = 7;
+// The rows of the table, in its order.
+#[derive(Clone, Copy, PartialEq, Eq)]
+pub enum Refusal {
+    Memory,
+    Form,
+    Value,
+    Status,
+    Emergency,
+    Paused,
+    Contradiction,
+    Safety,
+    Occupied,
+    Nothing,
+}
 
 // Which conditions of the table hold.
 #[derive(Clone, Copy)]
@@ -38,52 +32,69 @@ pub struct Faults {
     pub memory: bool,
     pub form: bool,
     pub value: bool,
-    // STATUS, EMERGENCY, PAUSED, or 0 if none of them
-    pub status: u64,
+    pub running: bool,
+    pub emergency: bool,
+    pub paused: bool,
     pub contradiction: bool,
     pub safety: bool,
     pub occupied: bool,
     pub nothing: bool,
 }
 
-impl Faults {
-    // 0 if none holds.
+impl Refusal {
+    // The number that a reply shows, 1 to 10.
     pub fn number(self) -> u64
+        ensures { result ≡ number_of self }
+    {
+        match self {
+            Refusal::Memory => 8,
+            Refusal::Form => 1,
+            Refusal::Value => 2,
+            Refusal::Status => 3,
+            Refusal::Emergency => 9,
+            Refusal::Paused => 10,
+            Refusal::Contradiction => 4,
+            Refusal::Safety => 5,
+            Refusal::Occupied => 6,
+            Refusal::Nothing => 7,
+        }
+    }
+}
+
+impl Faults {
+    pub fn first(self) -> Option<Refusal>
         ensures { result ≡ first_holding (table self) }
     {
-        let running = self.status == STATUS;
-        let emergency = self.status == EMERGENCY;
-        let paused = self.status == PAUSED;
         if self.memory {
-            return MEMORY;
+            return Some(Refusal::Memory);
         }
         if self.form {
-            return FORM;
+            return Some(Refusal::Form);
         }
         if self.value {
-            return VALUE;
+            return Some(Refusal::Value);
         }
-        if running {
-            return STATUS;
+        if self.running {
+            return Some(Refusal::Status);
         }
-        if emergency {
-            return EMERGENCY;
+        if self.emergency {
+            return Some(Refusal::Emergency);
         }
-        if paused {
-            return PAUSED;
+        if self.paused {
+            return Some(Refusal::Paused);
         }
         if self.contradiction {
-            return CONTRADICTION;
+            return Some(Refusal::Contradiction);
         }
         if self.safety {
-            return SAFETY;
+            return Some(Refusal::Safety);
         }
         if self.occupied {
-            return OCCUPIED;
+            return Some(Refusal::Occupied);
         }
         if self.nothing {
-            return NOTHING;
+            return Some(Refusal::Nothing);
         }
-        0
+        None
     }
 }

@@ -1,8 +1,7 @@
 // When the conditions of the table hold, as far as that is decided without the line's record.
 ghost use Rattle.std.specs.Prelude.{◌≡◌};
-ghost use Rattle.refusal.specs.Rows.{lengths_wrong, reads_record, reads_tally, status_refusal, run_unsafe, run_occupied, nothing_to_cancel};
+ghost use Rattle.refusal.specs.Rows.{lengths_wrong, reads_record, reads_tally, refused_running, refused_in_emergency, refused_paused, run_unsafe, run_occupied, nothing_to_cancel};
 
-use crate::{EMERGENCY, PAUSED, STATUS};
 use event::Event;
 
 // 8 memory: not a hundred records, or tallies of a wrong length.
@@ -18,36 +17,38 @@ pub fn lengths_wrong(count: u64, tallies: &[i64]) -> bool
 pub fn reads_record(e: Event) -> bool
     ensures { result ≡ reads_record e }
 {
-    let kind = e.kind();
-    (kind == Event::RUN) | (kind == Event::SAMPLE)
+    matches!(e, Event::Run | Event::Sample(_))
 }
 
 #[tactic(auto, unfolding(crate::specs::Rows::reads_tally))]
 pub fn reads_tally(e: Event) -> bool
     ensures { result ≡ reads_tally e }
 {
-    let kind = e.kind();
-    (kind == Event::SAMPLE) | (kind == Event::CANCEL)
+    matches!(e, Event::Sample(_) | Event::Cancel)
 }
 
-// 3 status, 9 emergency or 10 paused: why the status refuses the event; 0 if it does not.
-#[tactic(auto, unfolding(crate::specs::Rows::status_refusal))]
-pub fn status_refusal(status: u64, e: Event) -> u64
-    ensures { result ≡ status_refusal status e }
+// 3 status
+#[tactic(auto, unfolding(crate::specs::Rows::refused_running))]
+pub fn refused_running(status: u64, e: Event) -> bool
+    ensures { result ≡ refused_running status e }
 {
-    let kind = e.kind();
-    let run = kind == Event::RUN;
-    let setup = kind == Event::SETUP;
-    if (run | setup | (kind == Event::STORE)) & (status == status::RUNNING) {
-        return STATUS;
-    }
-    if (run | (kind == Event::STOP) | setup) & (status == status::EMERGENCY) {
-        return EMERGENCY;
-    }
-    if setup & (status == status::PAUSED) {
-        return PAUSED;
-    }
-    0
+    matches!(e, Event::Run | Event::Setup(_) | Event::Store(_, _)) & (status == status::RUNNING)
+}
+
+// 9 emergency
+#[tactic(auto, unfolding(crate::specs::Rows::refused_in_emergency))]
+pub fn refused_in_emergency(status: u64, e: Event) -> bool
+    ensures { result ≡ refused_in_emergency status e }
+{
+    matches!(e, Event::Run | Event::Stop | Event::Setup(_)) & (status == status::EMERGENCY)
+}
+
+// 10 paused
+#[tactic(auto, unfolding(crate::specs::Rows::refused_paused))]
+pub fn refused_paused(status: u64, e: Event) -> bool
+    ensures { result ≡ refused_paused status e }
+{
+    matches!(e, Event::Setup(_)) & (status == status::PAUSED)
 }
 
 // 5 safety: `input` is the lowest required input that is off in the last sample, 0 if none is.
@@ -55,7 +56,7 @@ pub fn status_refusal(status: u64, e: Event) -> u64
 pub fn run_unsafe(input: u64, e: Event) -> bool
     ensures { result ≡ run_unsafe input e }
 {
-    (e.kind() == Event::RUN) & (input != 0)
+    matches!(e, Event::Run) & (input != 0)
 }
 
 // 6 occupied: nearzero is the active code's, gross the last sample's, in divisions.
@@ -63,7 +64,7 @@ pub fn run_unsafe(input: u64, e: Event) -> bool
 pub fn run_occupied(status: u64, nearzero: i64, gross: i64, e: Event) -> bool
     ensures { result ≡ run_occupied status nearzero gross e }
 {
-    (e.kind() == Event::RUN) & (status == status::STOPPED) & (nearzero < gross)
+    matches!(e, Event::Run) & (status == status::STOPPED) & (nearzero < gross)
 }
 
 // 7 nothing: `none` where there is no chance to cancel.
@@ -71,5 +72,5 @@ pub fn run_occupied(status: u64, nearzero: i64, gross: i64, e: Event) -> bool
 pub fn nothing_to_cancel(none: bool, e: Event) -> bool
     ensures { result ≡ nothing_to_cancel none e }
 {
-    (e.kind() == Event::CANCEL) & none
+    matches!(e, Event::Cancel) & none
 }

@@ -5,11 +5,9 @@ use Rattle.event.specs.declared.Event.{Event}
 use Rattle.tallies.specs.Memory.{zeros}
 use Rattle.line.specs.Line.{fresh_line}
 use Rattle.line.specs.State.{State, state}
-use Rattle.line.specs.Tallying.{step_in}
-use Rattle.line.specs.Step.{out_on, step_on}
+use Rattle.line.specs.Step.{step_on}
 use Rattle.claim.specs.Run.{World, answer, run_from, run}
 use Rattle.replay.specs.declared.Plant.{Plant}
-use Rattle.replay.specs.declared.Stepped.{Stepped}
 use Rattle.replay.specs.declared.Turned.{Turned}
 
 -- "from a fresh line and memory"
@@ -22,10 +20,6 @@ state_of p ts = state p.line p.settings ts
 
 abbrev pub plant_in : State → Plant
 plant_in s = record { line = s.line; settings = s.settings }
-
--- a step of the line, and its records after it
-abbrev pub stepped_by : State → Event → Stepped
-stepped_by s e = record { step = step_in (out_on s e); settings = (step_on s e).state.settings }
 
 -- one event on a plant and the lent tallies
 abbrev pub turned_by : State → Event → Turned

@@ -17,7 +17,7 @@ use Rattle.controller.specs.Serve.{answer_to, state_after, Serving, serving, ser
 use Rattle.controller.specs.declared.Served.{Served}
 use Rattle.controller.specs.Input.{printed}
 use Rattle.blocks.specs.Lines.{line_length, NoLf, end_from}
-use Rattle.blocks.proofs.Ends.{at_most, end-within, ends_last}
+use Rattle.blocks.proofs.Ends.{at_most, ends_last}
 use Rattle.sessions.specs.Sessions.{stop_at, Ends, Begins, Follows, Says}
 use Rattle.sessions.specs.declared.block.Session.{Session}
 use Rattle.sessions.proofs.Prints.{prints-line}
@@ -43,11 +43,6 @@ pub record Said (s : State) (bytes input : List ℕ) (k : Line) (ss : List Setti
 -- the first line of text
 pub begins-ends : (k : Line) (input : List ℕ) (room : ℕ) (s : Session) → Begins k input room s → (Ends input room s) × (s.at ≡ 0)
 begins-ends k input room s b = ((rw b.1 (omega arith), b.2 ∙ rw (b.1, b.3) refl), b.3)
-
--- nothing has been said yet
-pub said-first : (k : Line) (ss : List Settings) (ts : List ℤ) (us input : List ℕ) (s : Session) → s.at ≡ 0
-    → Said (state k ss ts) (drop s.start input) input k ss ts us s.start s.at
-said-first k ss ts us input s e = rw e (record { fits = omega arith; says = λ more. refl })
 
 -- an answer behind the first bytes of the output
 module _ (at : ℕ) (text us : List ℕ) (free : at ≤ length us) where
@@ -77,18 +72,6 @@ module _ (input : List ℕ) (room : ℕ) (s : Session) (ends : Ends input room s
       by_cases (no_room room s.at)
       (λ y. let e : s.end ≡ length input = rw y at ends.1 in absurd (omega (arith, h, e)))
       (λ n. let e : s.end ≡ end_from input s.start = rw n at ends.1 in (e, n))
-
-  pub session_order : s.start ≤ s.end
-  session_order =
-      by_cases (no_room room s.at)
-      (λ y. let e : s.end ≡ length input = rw y at ends.1 in omega (arith, e, ends.0))
-      (λ n. let e : s.end ≡ end_from input s.start = rw n at ends.1 in omega (arith, e))
-
-  pub session_within : s.end ≤ length input
-  session_within =
-      by_cases (no_room room s.at)
-      (λ y. let e : s.end ≡ length input = rw y at ends.1 in omega (arith, e))
-      (λ n. let e : s.end ≡ end_from input s.start = rw n at ends.1 in rw e (end-within input s.start ends.0))
 
   -- there is room, and no line of text is answered: none is complete
   pub session_last : length input ≤ s.end → no_room room s.at ≡ false → NoLf (drop s.start input)

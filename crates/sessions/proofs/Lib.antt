@@ -1,6 +1,2 @@
-pub mod Bodies
 pub mod Prints
 pub mod Goes
-pub mod Sessions
-pub mod Lines
-pub mod Blocks

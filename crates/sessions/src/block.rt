@@ -79,6 +79,7 @@ pub(crate) fn next(served: Served, input: &[u8], lf: usize, out: &[u8]) -> Sessi
 }
 
 // The complete lines of a block, from a session on, as many as have room for their answers.
+// The loop goes by the ends of lines, which `next` finds as it goes: no iterator says that more plainly.
 pub(crate) fn serve_lines(
     session: Session,
     records: &mut [Settings],

@@ -88,7 +88,8 @@ impl Settings {
         self.ranged() & self.ordered()
     }
 
-    // 1 LoLo, 2 Lo, 3 OK, 4 Hi, 5 HiHi
+    // 1 LoLo, 2 Lo, 3 OK, 4 Hi, 5 HiHi. A number and no enum: it is printed, is a bit of the masks, and 6 to 8 are the other
+    // verdicts.
     #[tactic(auto, unfolding(crate::specs::Grade::grade_of))]
     pub fn grade(self, net: i64) -> u64
         ensures { result ≡ grade_of self net }

@@ -9,9 +9,9 @@ use Rattle.lists.specs.Sums.{sum_of, squares_of}
 use Rattle.spread.proofs.Squares.{one_more_lem}
 use Rattle.sheet.specs.Apart.{Apart}
 
-pub apart-holds : Apart
+pub apart_holds : Apart
 unfolding sum_of squares_of
-apart-holds [] = zero-le
-apart-holds (x ∷ xs) =
+apart_holds [] = zero-le
+apart_holds (x ∷ xs) =
     rw (← add-one)
-    (one_more_lem (length xs) (squares_of xs) (nat_abs (sum_of xs)) (nat_abs x) (nat_abs (sum_of xs +ℤ x)) (apart-holds xs) (abs_add (sum_of xs) x))
+    (one_more_lem (length xs) (squares_of xs) (nat_abs (sum_of xs)) (nat_abs x) (nat_abs (sum_of xs +ℤ x)) (apart_holds xs) (abs_add (sum_of xs) x))

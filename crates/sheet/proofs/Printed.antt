@@ -5,6 +5,7 @@ use mathlib.Core.List.{List}
 use Prim.Native.Nat.{ℕ, ◌≤◌}
 use lib.IntN.{ℤ}
 use lib.ListN.{length}
+use Rattle.std.specs.Prelude.{None, Ok}
 use borrow.Author.Tests.{le-leb, eq-eqb, not-false}
 use Rattle.laws.proofs.Tests.{neither}
 use Rattle.settings.specs.Settings.{record_fit, settings_length, is_code}
@@ -15,7 +16,7 @@ use Rattle.refusal.proofs.Numbers.{none-holds}
 use Rattle.spread.specs.Figures.{report_fit}
 use Rattle.tallies.specs.Memory.{tallies_length, part_at, part_at_fit, fit_at, read_at}
 use Rattle.sheet.specs.Sheet.{sheet_of}
-use Rattle.sheet.specs.Report.{memory_wrong, report_faults, report_refusal, printed, report_of}
+use Rattle.sheet.specs.Report.{memory_wrong, report_faults, report_refusal, report_of}
 
 pub record Printed (r : Settings) (ts : List ℤ) (code : ℕ) : Type 0 where
   pub own : record_fit r ≡ true
@@ -25,7 +26,7 @@ pub record Printed (r : Settings) (ts : List ℤ) (code : ℕ) : Type 0 where
 failed : (a b : Bool) → a ≡ true → a && b ≡ false → b ≡ false
 failed a b h k = rw h at k
 
-pub printed_tells : (count : ℕ) (r : Settings) (ts : List ℤ) (code : ℕ) → report_refusal count r ts code ≡ 0 → Printed r ts code
+pub printed_tells : (count : ℕ) (r : Settings) (ts : List ℤ) (code : ℕ) → report_refusal count r ts code ≡ None → Printed r ts code
 unfolding report_refusal memory_wrong
 printed_tells count r ts code h =
     let n = none-holds (report_faults count r ts code) h in
@@ -38,7 +39,7 @@ printed_tells count r ts code h =
 -- a code's sheet is printed where the lengths are right, and its record and tally fit
 pub prints : (count : ℕ) (r : Settings) (ts : List ℤ) (code : ℕ) → count ≡ settings_length → length ts ≡ tallies_length → code ≤ 99
     → record_fit r ≡ true → part_at_fit ts code ≡ true → report_fit (part_at ts code).tally ≡ true
-    → report_of count r ts code ≡ printed (sheet_of (part_at ts code) r.target)
+    → report_of count r ts code ≡ Ok (sheet_of (part_at ts code) r.target)
 unfolding report_of report_refusal memory_wrong fit_at
 prints count r ts code n len low own part fit =
     rw (right_lengths count ts n len, own, le-leb code 99 low, eq-eqb (length ts) tallies_length len, part, fit)

@@ -1,9 +1,8 @@
 -- 01, "Bench marks", as one theorem, the spreads by request T-06 of 02.
-use Rattle.std.specs.Prelude.{◌≡◌, List, [], ◌∷◌, map, ℤ, pos, negsuc}
+use Rattle.std.specs.Prelude.{◌≡◌, List, [], ◌∷◌, map, ℤ, pos, negsuc, Some}
 use Rattle.weight.specs.Mean.{rounded}
 use Rattle.settings.specs.Grade.{grade_of}
 use Rattle.settings.specs.declared.Settings.{Settings}
-use Rattle.spread.specs.declared.Spread.TheVariants.{Of}
 use Rattle.part.specs.Part.{Part, empty_part, added_part}
 use Rattle.sheet.specs.Sheet.{sheet_of}
 
@@ -29,5 +28,5 @@ pub record Bench : Type 0 where
   -- "sums 2007 and -2007 over 2 give 1004 and -1004"
   pub means : map (λ (s : ℤ). rounded s 2) (pos 2007 ∷ negsuc 2006 ∷ []) ≡ pos 1004 ∷ negsuc 1003 ∷ []
   -- T-06: "Weights 1, 2, 4 now give 1.5 and 1.2."
-  pub sd : (sheet_of (tallied weights) example.target).sd ≡ Of 15
-  pub sdp : (sheet_of (tallied weights) example.target).sdp ≡ Of 12
+  pub sd : (sheet_of (tallied weights) example.target).sd ≡ Some 15
+  pub sdp : (sheet_of (tallied weights) example.target).sdp ≡ Some 12

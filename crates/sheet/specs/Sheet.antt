@@ -1,20 +1,16 @@
 -- 01, "The sheet's figures": what is printed of what stands under a code, by T-05 the class counts too.
-use Rattle.std.specs.Prelude.{◌-◌, eqb, ℤ, pos, ◌-ℤ◌, replicate}
+use Rattle.std.specs.Prelude.{◌-◌, eqb, ℤ, ◌-ℤ◌, Option, Some, None}
 use Rattle.laws.specs.Choice.{when◌then◌else◌}
 use Rattle.weight.specs.Mean.{rounded, mean_of}
-use Rattle.weight.specs.declared.Figure.{Figure}
-use Rattle.weight.specs.declared.Figure.TheVariants.{None, Of}
 use Rattle.spread.specs.Figures.{sd_of, sdp_of}
-use Rattle.spread.specs.declared.Spread.TheVariants as spread
 use Rattle.tally.specs.Tally.{total}
 use Rattle.tally.specs.declared.tally.Tally.{Tally}
-use Rattle.part.specs.Class.{class_count}
 use Rattle.part.specs.Part.{Part}
 use Rattle.sheet.specs.declared.sheet.Sheet.{Sheet}
 
 -- "For n = 0 max, min, mean, deviation and sdp are none"
-abbrev pub unless_none : Tally → ℤ → Figure
-unless_none t x = when eqb t.n 0 then None else Of x
+abbrev pub unless_none : Tally → ℤ → Option ℤ
+unless_none t x = when eqb t.n 0 then None else Some x
 
 -- "Total is all eight counts, ng is total less OK. Mean is S/n, rounded as m; deviation is mean less target, signed."
 unfoldable pub sheet_of : Part → ℤ → Sheet
@@ -39,28 +35,4 @@ sheet_of p target =
       sd = sd_of t;
       sdp = sdp_of t;
       classes = p.counts;
-    }
-
--- the sheet of a refused report: zeros and none
-abbrev pub blank_sheet : Sheet
-blank_sheet =
-    record {
-      total = 0;
-      ng = 0;
-      lolo = 0;
-      lo = 0;
-      ok = 0;
-      hi = 0;
-      hihi = 0;
-      foreign = 0;
-      double = 0;
-      crash = 0;
-      max = None;
-      min = None;
-      sum = pos 0;
-      mean = None;
-      deviation = None;
-      sd = spread.None;
-      sdp = spread.None;
-      classes = replicate class_count 0;
     }

@@ -6,7 +6,6 @@ mod memory;
 mod sheet;
 mod theorems;
 
-pub use answer::Report;
 pub use memory::report;
 pub use sheet::Sheet;
 pub use theorems::{always_apart, bench};

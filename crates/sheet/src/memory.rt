@@ -2,11 +2,13 @@
 ghost use Rattle.std.specs.Prelude.{◌≡◌};
 ghost use Rattle.sheet.specs.Report.{report_on};
 
-use crate::answer::{Report, report_on};
+use crate::answer::report_on;
+use crate::sheet::Sheet;
+use refusal::Refusal;
 use settings::Settings;
 
-// The code's sheet, or the number of the refusal.
-pub fn report(records: &[Settings], tallies: &[i64], code: u64) -> Report
+// The code's sheet, or what refuses it.
+pub fn report(records: &[Settings], tallies: &[i64], code: u64) -> Result<Sheet, Refusal>
     ensures { result ≡ report_on records.now tallies.now code }
 {
     let own = records::read(records, code);

@@ -4,14 +4,14 @@ ghost use Rattle.weight.specs.Weight.{is_weight};
 ghost use Rattle.tally.specs.Tally.{tally_limit, total};
 ghost use Rattle.spread.specs.Figures.{report_fit};
 ghost use Rattle.tallies.specs.Memory.{held};
-ghost use Rattle.sheet.specs.Sheet.{unless_none, sheet_of, blank_sheet};
+ghost use Rattle.sheet.specs.Sheet.{unless_none, sheet_of};
 ghost use Rattle.sheet.specs.Steps.{weight_or_none, less_target};
 
 use part::{CLASSES, Classes};
-use spread::Spread;
 use tally::Tally;
-use weight::{Figure, mean_of};
+use weight::mean_of;
 
+// A code's figures. Counts are of verdicts, up to 999,999 together; weights are in divisions; None where 01 prints none.
 #[derive(Clone, Copy)]
 pub struct Sheet {
     pub total: u64,
@@ -24,43 +24,16 @@ pub struct Sheet {
     pub foreign: u64,
     pub double: u64,
     pub crash: u64,
-    pub max: Figure,
-    pub min: Figure,
+    pub max: Option<i64>,
+    pub min: Option<i64>,
     pub sum: i64,
-    pub mean: Figure,
-    pub deviation: Figure,
-    pub sd: Spread,
-    pub sdp: Spread,
+    pub mean: Option<i64>,
+    pub deviation: Option<i64>,
+    // tenths of a division, below 15,000,000, as sdp
+    pub sd: Option<u64>,
+    pub sdp: Option<u64>,
     // the counts of classes 0 to 20
     pub classes: [u64; CLASSES],
-}
-
-impl Sheet {
-    // That of a refused report.
-    pub fn blank() -> Sheet
-        ensures { result ≡ blank_sheet }
-    {
-        Sheet {
-            total: 0,
-            ng: 0,
-            lolo: 0,
-            lo: 0,
-            ok: 0,
-            hi: 0,
-            hihi: 0,
-            foreign: 0,
-            double: 0,
-            crash: 0,
-            max: Figure::None,
-            min: Figure::None,
-            sum: 0,
-            mean: Figure::None,
-            deviation: Figure::None,
-            sd: Spread::None,
-            sdp: Spread::None,
-            classes: [0u64; CLASSES],
-        }
-    }
 }
 
 pub(crate) fn sheet_of(t: Tally, c: Classes, target: i64) -> Sheet
@@ -70,7 +43,7 @@ pub(crate) fn sheet_of(t: Tally, c: Classes, target: i64) -> Sheet
     let total = total_of(t);
     let mean = mean_of(t.sum, t.n);
     Sheet {
-        total: total,
+        total,
         ng: total - t.ok,
         lolo: t.lolo,
         lo: t.lo,
@@ -83,7 +56,7 @@ pub(crate) fn sheet_of(t: Tally, c: Classes, target: i64) -> Sheet
         max: unless_none(t, t.largest),
         min: unless_none(t, t.smallest),
         sum: t.sum,
-        mean: mean,
+        mean,
         deviation: deviation_of(mean, target),
         sd: spread::sd(t),
         sdp: spread::sdp(t),
@@ -99,21 +72,15 @@ fn total_of(t: Tally) -> u64
 }
 
 // x, a figure of the graded verdicts, where there are any.
-fn unless_none(t: Tally, x: i64) -> Figure
+fn unless_none(t: Tally, x: i64) -> Option<i64>
     ensures { result ≡ unless_none t x }
 {
-    if t.n == 0 {
-        return Figure::None;
-    }
-    Figure::Of(x)
+    (t.n != 0).then_some(x)
 }
 
-fn deviation_of(mean: Figure, target: i64) -> Figure
+fn deviation_of(mean: Option<i64>, target: i64) -> Option<i64>
     requires { (weight_or_none mean ≡ true) × (is_weight target ≡ true) }
     ensures { result ≡ less_target mean target }
 {
-    let Figure::Of(m) = mean else {
-        return Figure::None;
-    };
-    Figure::Of(m - target)
+    Some(mean? - target)
 }

@@ -2,16 +2,15 @@
 use mathlib.Core.Path.{◌≡◌, refl}
 use mathlib.Core.Bool.{Bool, true, false}
 use mathlib.Core.List.{List, [], ◌∷◌}
-use Prim.Native.Nat.{ℕ, zero, suc, ◌+◌, ◌*◌, ◌-◌, ◌^◌, ◌≤◌, ◌<◌}
+use Prim.Native.Nat.{ℕ, zero, suc, ◌^◌, ◌≤◌, ◌<◌}
 use native.Mathlib.Omega.{arith}
 use native.Mathlib.Nat.{pow-succ'}
 use lib.Pow.{pow_pos}
 use lib.Dec.{ltb}
-use lib.ListN.{length, get_or, drop, drop_of_length-le}
+use lib.ListN.{length}
 use Rattle.laws.specs.Choice.{bit, within}
 use Rattle.laws.proofs.Tests.{if_ind}
 use Rattle.lists.specs.Each.{any_of, all_of}
-use Rattle.lists.proofs.Each.{rest}
 use Rattle.lists.proofs.Pairs.{pairs_keep, pairs-same}
 use Rattle.mask.specs.Bits.{marked}
 use Rattle.device.specs.Sorter.{sorter_fit}
@@ -38,20 +37,6 @@ unfolding on_bits
 bits_below [] k h = pow_pos k
 bits_below (s ∷ ss) zero h = absurd (omega arith)
 bits_below (s ∷ ss) (suc k) h = rw (pow-succ' 2 k) (omega (arith, bit_le s, bits_below ss k (omega arith)))
-
--- one sorter more, from the last to the first
-pub bits-next :
-    (ss : List Sorter) (i : ℕ) (d : Sorter) → 0 < i → i ≤ length ss
-    → on_bit (get_or ss (i - 1) d) + 2 * on_bits (drop i ss) ≡ on_bits (drop (i - 1) ss)
-unfolding on_bits
-bits-next ss i d p h =
-    let k : i - 1 < length ss = omega arith in
-    let e : (i - 1) + 1 ≡ i = omega arith in
-    rw (rest ss (i - 1) d k, e)
-
-pub bits_none : (ss : List Sorter) (i : ℕ) → length ss ≤ i → 0 ≡ on_bits (drop i ss)
-unfolding on_bits
-bits_none ss i h = rw (drop_of_length-le ss h)
 
 -- ---- fitness: one sorter's law, at each of six
 

@@ -1,11 +1,11 @@
 // The six sorters of a line. The rule of one is `device::Sorter`'s; here it is applied to each, with what it is set to.
 #![tactic(auto)]
 
-ghost use Rattle.std.specs.Prelude.{◌≡◌, not, ◌≤◌};
+ghost use Rattle.std.specs.Prelude.{◌≡◌, not};
 ghost use Rattle.device.specs.Sorter.{sorter_fit};
 ghost use Rattle.event.specs.Setup.{sorter_setups};
 ghost use Rattle.sorters.specs.OneAlone.{OneAlone};
-ghost use Rattle.sorters.specs.Sorters.{ticked_as, entered, blocks, all_off, all_ticked, all_entered, any_blocks, any_sorting, on_bit, on_bits, all_fit};
+ghost use Rattle.sorters.specs.Sorters.{ticked_as, entered, blocks, all_off, all_ticked, all_entered, any_blocks, any_sorting, on_bits, all_fit};
 
 use device::Sorter;
 use event::{Setup, SorterSetup};
@@ -13,12 +13,12 @@ use event::{Setup, SorterSetup};
 // ---- one sorter
 
 // With nothing waiting, and off, it stays: one test, and no place is copied.
+#[tactic(auto, unfolding(crate::specs::Sorters::ticked_as), using(device::proofs::Keeps::idle_stays))]
 fn ticked_as(mut sorter: Sorter, setup: SorterSetup) -> Sorter
     ensures { result ≡ ticked_as sorter setup }
 {
     if sorter.sorting() {
-        let next = sorter.ticked(setup.to);
-        sorter = next;
+        sorter = sorter.ticked(setup.to);
     }
     sorter
 }
@@ -42,33 +42,21 @@ fn blocks(sorter: Sorter, setup: SorterSetup, verdict: u64) -> bool
     mask::has(setup.sort, verdict) & sorter.full()
 }
 
-#[tactic(auto, unfolding(crate::specs::Sorters::on_bit))]
-fn on_bit(sorter: Sorter) -> u64
-    ensures { (result ≡ on_bit sorter) × (result ≤ 1) }
-{
-    if 0 < sorter.on {
-        return 1;
-    }
-    0
-}
-
 // One at rest is fit: one test, and no place is read.
+#[tactic(auto, using(device::proofs::Keeps::idle_fit))]
 fn unfit(sorter: Sorter) -> bool
     ensures { result ≡ not (sorter_fit sorter) }
 {
-    if sorter.sorting() {
-        return !sorter.fit();
-    }
-    false
+    sorter.sorting() && !sorter.fit()
 }
 
 // ---- all six: sorter k stands at k - 1
 
+#[tactic(auto, unfolding(crate::specs::Sorters::all_off))]
 pub fn all_off() -> [Sorter; Setup::SORTERS]
     ensures { result ≡ all_off }
 {
-    let off = Sorter::off();
-    [off; Setup::SORTERS]
+    [Sorter::off(); Setup::SORTERS]
 }
 
 // A running tick. No loop: the six are then kept apart, and those at rest where they are.
@@ -92,15 +80,9 @@ pub fn all_entered(
 ) -> [Sorter; Setup::SORTERS]
     ensures { result ≡ all_entered verdict sorters (sorter_setups setup) }
 {
-    let setups = setup.sorters();
     let mut all = sorters;
-    let mut i: usize = 0;
-    while i < Setup::SORTERS {
-        let sorter = all[i];
-        let part = setups[i];
-        let next = entered(sorter, part, verdict);
-        all[i] = next;
-        i += 1;
+    for (i, setup) in setup.sorters().iter().enumerate() {
+        all[i] = entered(all[i], *setup, verdict);
     }
     all
 }
@@ -110,14 +92,10 @@ pub fn any_blocks(sorters: [Sorter; Setup::SORTERS], setup: Setup, verdict: u64)
     ensures { result ≡ any_blocks verdict sorters (sorter_setups setup) }
 {
     let setups = setup.sorters();
-    let mut i: usize = 0;
-    while i < Setup::SORTERS {
-        let sorter = sorters[i];
-        let part = setups[i];
-        if blocks(sorter, part, verdict) {
+    for (sorter, setup) in sorters.iter().zip(&setups) {
+        if blocks(*sorter, *setup, verdict) {
             return true;
         }
-        i += 1;
     }
     false
 }
@@ -127,11 +105,8 @@ pub fn any_sorting(sorters: [Sorter; Setup::SORTERS]) -> bool
     ensures { result ≡ any_sorting sorters }
 {
     let mut found = false;
-    let mut i: usize = 0;
-    while i < Setup::SORTERS {
-        let sorter = sorters[i];
-        found = found | sorter.sorting();
-        i += 1;
+    for sorter in &sorters {
+        found |= sorter.sorting();
     }
     found
 }
@@ -141,11 +116,8 @@ pub fn on_bits(sorters: [Sorter; Setup::SORTERS]) -> u64
     ensures { result ≡ on_bits sorters }
 {
     let mut bits: u64 = 0;
-    let mut i: usize = Setup::SORTERS;
-    while 0 < i {
-        i -= 1;
-        let sorter = sorters[i];
-        bits = on_bit(sorter) + 2 * bits;
+    for sorter in sorters.iter().rev() {
+        bits = u64::from(0 < sorter.on) + 2 * bits;
     }
     bits
 }
@@ -153,15 +125,7 @@ pub fn on_bits(sorters: [Sorter; Setup::SORTERS]) -> u64
 pub fn all_fit(sorters: [Sorter; Setup::SORTERS]) -> bool
     ensures { result ≡ all_fit sorters }
 {
-    let mut i: usize = 0;
-    while i < Setup::SORTERS {
-        let sorter = sorters[i];
-        if unfit(sorter) {
-            return false;
-        }
-        i += 1;
-    }
-    true
+    sorters.iter().all(|sorter| !unfit(*sorter))
 }
 
 // One sorter, with the masks of the others 0 and the others off, does what the one sorter of 01 did.

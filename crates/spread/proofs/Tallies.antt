@@ -14,7 +14,7 @@ use Rattle.tally.proofs.Facts.{FitTally, fit_tells}
 use Rattle.spread.specs.Root.{root}
 use Rattle.spread.specs.Figures.{report_fit, apart_of, times, spread_of, sd_of, sdp_of}
 use Rattle.spread.specs.Theorem.{TheLargest}
-use Rattle.spread.specs.declared.Spread.TheVariants.{None}
+use Rattle.std.specs.Prelude.{None}
 use Rattle.spread.proofs.Roots.{root-largest, root-only}
 
 pub record Fit (t : Tally) : Type 0 where

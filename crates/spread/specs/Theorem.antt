@@ -1,15 +1,13 @@
 -- The theorem on the definitions: a spread is what T-06 says, and where it is none.
-use Rattle.std.specs.Prelude.{◌≡◌, true, ℕ, ◌-◌, ◌*◌, ◌≤◌, ◌<◌}
+use Rattle.std.specs.Prelude.{◌≡◌, true, ℕ, ◌-◌, ◌*◌, ◌≤◌, ◌<◌, Option, Some, None}
 use Rattle.tally.specs.declared.tally.Tally.{Tally}
 use Rattle.spread.specs.Root.{Largest, root}
 use Rattle.spread.specs.Figures.{report_fit, apart_of, times, sd_of, sdp_of}
-use Rattle.spread.specs.declared.Spread.{Spread}
-use Rattle.spread.specs.declared.Spread.TheVariants.{None, Of}
 
 -- the spread is the largest whole s with s²·d ≤ x, and no other is
-pub record TheLargest (spread : Spread) (d x : ℕ) : Type 0 where
+pub record TheLargest (spread : Option ℕ) (d x : ℕ) : Type 0 where
   pub s : ℕ
-  pub is : spread ≡ Of s
+  pub is : spread ≡ Some s
   pub largest : Largest d x s
   pub only : (r : ℕ) → Largest d x r → r ≡ s
 

@@ -18,13 +18,6 @@ use wide::Wide;
 // How often n * q - s * s is taken: `times` of specs/Figures.antt.
 const TIMES: u64 = 100;
 
-// A spread in tenths of a division, or none where a tally has none.
-#[derive(Clone, Copy)]
-pub enum Spread {
-    None,
-    Of(u64), // tenths, below 15,000,000 for every tally
-}
-
 // Fit for a report: the spreads are roots of n * q - s * s, which must not be below 0.
 pub fn fit(t: Tally) -> bool
     ensures { result ≡ report_fit t }
@@ -36,19 +29,19 @@ pub fn fit(t: Tally) -> bool
     Wide::product(s, s).at_most(Wide::of(t.squares).by(t.n))
 }
 
-// The spread of a sample, over n * (n - 1).
+// The spread of a sample, over n * (n - 1): tenths of a division, below 15,000,000 for every tally.
 #[tactic(auto, using(crate::proofs::Tallies::spread_none))]
-pub fn sd(t: Tally) -> Spread
+pub fn sd(t: Tally) -> Option<u64>
     ensures { result ≡ sd_of t }
 {
     if t.n < 2 {
-        return Spread::None;
+        return None;
     }
     over(t, t.n - 1)
 }
 
-// The spread of a population, over n * n.
-pub fn sdp(t: Tally) -> Spread
+// The spread of a population, over n * n: tenths of a division, below 15,000,000 for every tally.
+pub fn sdp(t: Tally) -> Option<u64>
     ensures { result ≡ sdp_of t }
 {
     over(t, t.n)
@@ -60,14 +53,14 @@ pub fn root_is_the_largest()
 {}
 
 // The spread over n * m.
-fn over(t: Tally, m: u64) -> Spread
+fn over(t: Tally, m: u64) -> Option<u64>
     requires { (m ≤ t.n) × (t.n ≤ m + 1) }
     ensures { result ≡ spread_of t m }
 {
     if (0 < m) & fit(t) {
-        return Spread::Of(root(t.n, m, apart(t)));
+        return Some(root(t.n, m, apart(t)));
     }
-    Spread::None
+    None
 }
 
 // TIMES * (n * q - s * s)
@@ -82,6 +75,7 @@ fn apart(t: Tally) -> Wide
         .by(TIMES)
 }
 
+// No `isqrt` of the library: x does not fit 64 bits.
 // The largest r that fits in x, by halving a bracket around it. No root of a fit tally reaches the bracket's first end:
 // r * r is at most TIMES * 2 * 10^12.
 fn root(n: u64, m: u64, x: Wide) -> u64

@@ -1,4 +1,5 @@
-// Numbers past 64 bits, exactly: two digits in base 10^12, so that a digit times a count up to 10^6 fits 64 bits.
+// Numbers past 64 bits, exactly: two digits in base 10^12, so that a digit times a count up to 10^6 fits 64 bits. No u128:
+// T-06 asks that nothing wider than 64 bits is assumed.
 ghost use Rattle.std.specs.Prelude.{◌≡◌, ◌-◌, ◌*◌, ◌≤◌, ◌<◌, leb};
 ghost use Rattle.spread.specs.Wide.{base, value, Digits, Holds};
 
@@ -6,8 +7,8 @@ const BASE: u64 = 1_000_000_000_000;
 
 const HALF: u64 = 1_000_000; // HALF * HALF is BASE
 
-// hi * BASE + lo
-#[derive(Clone, Copy)]
+// hi * BASE + lo. The order is that of the digits, hi before lo, which is that of the numbers.
+#[derive(Clone, Copy, PartialEq, Eq, PartialOrd, Ord)]
 pub(crate) struct Wide {
     hi: u64,
     lo: u64,
@@ -70,6 +71,6 @@ impl Wide {
         requires { Digits self × Digits b }
         ensures { result ≡ leb (value self) (value b) }
     {
-        (self.hi < b.hi) | (self.hi == b.hi) & (self.lo <= b.lo)
+        self <= b
     }
 }

@@ -1,4 +1,5 @@
 // The line's status and error: their numbers, the error that a verdict stops the line with, and when the conveyor runs.
+// They are numbers and no enums: a line's record is public, and one with any number in them must be refusable.
 #![tactic(auto)]
 
 ghost use Rattle.std.specs.Prelude.{◌≡◌};
@@ -31,13 +32,10 @@ pub const NINTH_SIGNAL: u64 = 7;
 pub fn error_known(error: u64) -> bool
     ensures { result ≡ error_known error }
 {
-    (error == Done::NO_ERROR)
-        | (error == PLAIN)
-        | (error == UNSAFE)
-        | (error == TWO_ON)
-        | (error == FOREIGN)
-        | (error == CRASH)
-        | (error == NINTH_SIGNAL)
+    matches!(
+        error,
+        Done::NO_ERROR | PLAIN | UNSAFE | TWO_ON | FOREIGN | CRASH | NINTH_SIGNAL
+    )
 }
 
 // The error of a line that this verdict, 1 (LoLo) to 8 (crash), stops.
@@ -45,16 +43,12 @@ pub fn error_known(error: u64) -> bool
 pub fn error_for(verdict: u64) -> u64
     ensures { result ≡ error_for verdict }
 {
-    if verdict == 7 {
-        return TWO_ON;
+    match verdict {
+        7 => TWO_ON,
+        6 => FOREIGN,
+        8 => CRASH,
+        _ => PLAIN,
     }
-    if verdict == 6 {
-        return FOREIGN;
-    }
-    if verdict == 8 {
-        return CRASH;
-    }
-    PLAIN
 }
 
 // With a status and a mode, an item in hand or not.

@@ -1,6 +1,6 @@
 -- Counts that were tested to be small. Assumes nothing.
 use mathlib.Core.Path.{◌≡◌, refl, sym}
-use mathlib.Core.Bool.{Bool, true, false, ◌&&◌}
+use mathlib.Core.Bool.{true, false, ◌&&◌}
 use mathlib.Core.List.{List, [], ◌∷◌, map}
 use Prim.Native.Nat.{ℕ, zero, suc, ◌+◌, ◌≤◌, ◌<◌}
 use native.Mathlib.Omega.{arith}
@@ -14,10 +14,6 @@ use Rattle.lists.specs.Each.{all_of}
 use Rattle.lists.specs.Counts.{add_up}
 use Rattle.lists.proofs.Each.{rest}
 use Rattle.tallies.specs.Memory.{small_count}
-
-pub and_assoc : (a b c : Bool) → (a && (b && c)) ≡ ((a && b) && c)
-and_assoc true b c = refl
-and_assoc false b c = refl
 
 -- the number at a place was tested too
 pub small_at : (l : List ℤ) (i : ℕ) → i < length l → all_of small_count l ≡ true → small_count (get_or l i (pos 0)) ≡ true

@@ -1,31 +1,17 @@
--- What stands behind the first numbers of a part; zeros grow by one. Assumes nothing.
+-- What stands behind the first numbers of a part. Assumes nothing.
 use mathlib.Core.Path.{◌≡◌, refl}
 use mathlib.Core.List.{List, [], ◌++◌, append-nil}
-use Prim.Native.Nat.{ℕ, zero, suc, ◌+◌, ◌-◌, ◌≤◌, ◌<◌}
-use native.Mathlib.Numerals.{add-one}
+use Prim.Native.Nat.{ℕ, zero, suc, ◌+◌, ◌-◌, ◌<◌}
 use native.Mathlib.Decide.{dec_le}
 use native.Mathlib.Nat.{lt_of_not-le}
 use native.Mathlib.Omega.{arith}
-use lib.IntN.{ℤ, pos}
-use lib.ListN.{length, take, drop, set, length-drop, length-append, drop_of_length-le, replicate-append-replicate}
-use lib.Seq.{take-suc-set, take_all, take-add, take_at, drop_at, drop-length, length-take-le}
-use borrow.Rule.Slice.PartMut.{put_mid, Post-is}
-use Rattle.tallies.specs.Memory.{zeros}
+use lib.IntN.{ℤ}
+use lib.ListN.{length, take, drop, length-drop, drop_of_length-le}
+use lib.Seq.{take_all, take-add, drop_at, length-take-le}
 
 -- what follows the first k, as a part of a slice is given
 pub tail-is : (k : ℕ) (l : List ℤ) → take (length l - k) (drop k l) ≡ drop k l
 tail-is k l = take_all (length l - k) (drop k l) (simp length-drop (omega arith))
-
--- what stands behind the first k put anew, as a lent part comes back
-pub put-tail : (k : ℕ) (a d b : List ℤ) → length a ≡ k → put_mid k (length (a ++ d) - k) (a ++ d) b ≡ a ++ b
-put-tail k a d b e =
-    let n : k ≤ length (a ++ d) = rw length-append (omega arith) in
-    rw (Post-is k (length (a ++ d)) (a ++ d) n, take_at a d k e, drop-length (a ++ d), append-nil)
-
--- where the first i are zeros, one more set makes it i + 1
-pub zeros-more : (l : List ℤ) (i : ℕ) → i < length l → take i l ≡ zeros i → take (i + 1) (set l i (pos 0)) ≡ zeros (i + 1)
-unfolding zeros
-zeros-more l i h e = rw (add-one i, take-suc-set l i (pos 0) h, e, replicate-append-replicate i 1 (pos 0), add-one i)
 
 take_none : (n : ℕ) → ◌≡◌ {A = List ℤ} (take n []) []
 take_none zero = refl

@@ -1,6 +1,6 @@
 -- 01, "Tallies lie in a second lent slice of numbers, 100 equal parts". A part is 34 numbers: those of the tally in the order of
 -- `numbers`, and behind them the 21 class counts of T-05.
-use Rattle.std.specs.Prelude.{ℕ, ◌+◌, ◌*◌, ◌/◌, ◌%◌, Bool, ◌&&◌, List, [], ◌∷◌, ◌++◌, map, leb, eqb, ℤ, pos, nat_abs, length, get_or, set, take, drop, replicate}
+use Rattle.std.specs.Prelude.{ℕ, ◌+◌, ◌*◌, ◌/◌, ◌%◌, Bool, ◌&&◌, List, [], ◌∷◌, ◌++◌, map, leb, eqb, Option, Some, None, ℤ, pos, nat_abs, length, get_or, set, take, drop, replicate}
 use Rattle.std.specs.Int.Signed.{le_z}
 use Rattle.laws.specs.Choice.{when◌then◌else◌}
 use Rattle.settings.specs.Settings.{last_code}
@@ -107,6 +107,10 @@ unfoldable pub zeros : ℕ → List ℤ
 zeros k = replicate k (pos 0)
 
 -- ---- what the private steps ask and give
+
+-- where code's part begins
+abbrev pub start_of : List ℤ → ℕ → Option ℕ
+start_of ts code = when lies ts code then Some (code * part_length) else None
 
 abbrev pub small_count : ℤ → Bool
 small_count x = le_z (pos 0) x && le_z x (pos 1048575)

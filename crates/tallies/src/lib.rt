@@ -9,9 +9,9 @@ ghost use Rattle.tally.specs.Tally.{tally_limit};
 ghost use Rattle.tally.specs.Steps.{Small};
 ghost use Rattle.part.specs.Class.{class_count};
 ghost use Rattle.part.specs.Classes.{three_of, packed, counts_of};
-ghost use Rattle.tallies.specs.Memory.{part_length, tally_length, numbers, part_numbers, tally_of, unsigned, numbers_fit, fit_at, read_at, written, zeros, held, small_count, put_three};
+ghost use Rattle.tallies.specs.Memory.{part_length, tally_length, numbers, part_numbers, tally_of, unsigned, numbers_fit, fit_at, read_at, written, zeros, held, start_of, small_count, put_three};
 
-use part::{CLASSES, Classes, first, second, third, three};
+use part::{Classes, first, second, third, three};
 use settings::LAST_CODE;
 use tally::Tally;
 use weight::size;
@@ -31,93 +31,69 @@ const MOST: i64 = 1_048_575;
 pub fn fit_at(tallies: &[i64], code: u64) -> bool
     ensures { result ≡ fit_at tallies.now code }
 {
-    if LAST_CODE < code {
+    let Some(at) = start_of(tallies, code) else {
         return false;
-    }
-    if tallies.len() != LENGTH {
-        return false;
-    }
-    let at = (code * PART as u64) as usize;
-    let end = at + PART;
-    part_fit(&tallies[at..end])
+    };
+    part_fit(&tallies[at..at + PART])
 }
 
 // Code's tally; the empty one where there is no such code or the memory has a wrong length.
 pub fn read(tallies: &[i64], code: u64) -> Tally
     ensures { result ≡ (read_at tallies.now code).tally }
 {
-    if LAST_CODE < code {
+    let Some(at) = start_of(tallies, code) else {
         return Tally::empty();
-    }
-    if tallies.len() != LENGTH {
-        return Tally::empty();
-    }
-    let at = (code * PART as u64) as usize;
-    let end = at + PART;
-    tally_of(&tallies[at..end])
+    };
+    tally_of(&tallies[at..at + PART])
 }
 
 // Its class counts; none where there is no such code or the memory has a wrong length.
 pub fn classes(tallies: &[i64], code: u64) -> Classes
     ensures { result ≡ packed (read_at tallies.now code).counts }
 {
-    if LAST_CODE < code {
+    let Some(at) = start_of(tallies, code) else {
         return Classes::none();
-    }
-    if tallies.len() != LENGTH {
-        return Classes::none();
-    }
-    let at = (code * PART as u64) as usize + TALLY;
-    let end = at + CLASSES;
-    classes_of(&tallies[at..end])
+    };
+    classes_of(&tallies[at + TALLY..at + PART])
 }
 
 // A tally and class counts that are fit together are put into code's part; anything else is not written.
 pub fn write(tallies: &mut [i64], code: u64, t: Tally, c: Classes)
     ensures { tallies.new ≡ written tallies.old code (held t c) }
 {
-    if LAST_CODE < code {
+    let Some(at) = start_of(tallies, code) else {
         return;
+    };
+    if t.fit() & (c.total() == t.n) {
+        put(&mut tallies[at..at + PART], t, c);
     }
-    if tallies.len() != LENGTH {
-        return;
-    }
-    if !t.fit() {
-        return;
-    }
-    if c.total() != t.n {
-        return;
-    }
-    let at = (code * PART as u64) as usize;
-    let end = at + PART;
-    put(&mut tallies[at..end], t, c);
 }
 
 // Every number becomes 0.
+#[tactic(auto, unfolding(crate::specs::Memory::zeros))]
 pub fn clear(tallies: &mut [i64])
     ensures { tallies.new ≡ zeros (length tallies.old) }
 {
-    let mut i = 0;
-    while i < tallies.len() {
-        let z: i64 = 0;
-        tallies[i] = z;
-        i += 1;
-    }
+    tallies.fill(0);
 }
 
-// A count below 0 is unfit, so the signs are tested before the sizes are taken.
+// Where code's part begins; nowhere where there is no such code or the memory has a wrong length.
+fn start_of(tallies: &[i64], code: u64) -> Option<usize>
+    ensures { result ≡ start_of tallies.now code }
+{
+    if (LAST_CODE < code) | (tallies.len() != LENGTH) {
+        return None;
+    }
+    Some(code as usize * PART)
+}
+
+// A count below 0 is unfit, and its size alone does not show it.
 fn part_fit(p: &[i64]) -> bool
     requires { length p.now ≡ part_length }
     ensures { result ≡ numbers_fit p.now }
 {
-    if !is_unsigned(p) {
-        return false;
-    }
     let t = tally_of(p);
-    if !t.fit() {
-        return false;
-    }
-    add_to(&p[TALLY..], t.n)
+    (is_unsigned(p) & t.fit()) && add_to(&p[TALLY..], t.n)
 }
 
 // The class counts are counts and add to n. That each is small is tested first.
@@ -125,24 +101,14 @@ fn add_to(p: &[i64], n: u64) -> bool
     requires { (length p.now ≡ class_count) × (n ≤ tally_limit) }
     ensures { result ≡ (all_of (le_z (pos 0)) p.now && eqb (add_up (map nat_abs p.now)) n) }
 {
-    if !are_small(p) {
-        return false;
-    }
-    sum_of(p) == n
+    are_small(p) && sum_of(p) == n
 }
 
 fn are_small(p: &[i64]) -> bool
     requires { length p.now ≡ class_count }
     ensures { result ≡ all_of small_count p.now }
 {
-    let mut small = true;
-    let mut i = 0;
-    while i < CLASSES {
-        let x = p[i];
-        small = small & ((0 <= x) & (x <= MOST));
-        i += 1;
-    }
-    small
+    p.iter().all(|x| (0 <= *x) & (*x <= MOST))
 }
 
 fn sum_of(p: &[i64]) -> u64
@@ -150,31 +116,21 @@ fn sum_of(p: &[i64]) -> u64
     ensures { result ≡ add_up (map nat_abs p.now) }
 {
     let mut sum = 0;
-    let mut i = 0;
-    while i < CLASSES {
-        let x = p[i];
-        sum += x as u64;
-        i += 1;
+    for x in p {
+        sum += size(*x);
     }
     sum
 }
 
+// The numbers that have no sign: all but the sum, the largest and the smallest.
 fn is_unsigned(p: &[i64]) -> bool
     requires { tally_length ≤ length p.now }
     ensures { result ≡ unsigned p.now }
 {
-    (0 <= p[0])
-        & (0 <= p[1])
-        & (0 <= p[2])
-        & (0 <= p[3])
-        & (0 <= p[4])
-        & (0 <= p[5])
-        & (0 <= p[6])
-        & (0 <= p[7])
-        & (0 <= p[8])
-        & (0 <= p[10])
+    p[..9].iter().all(|x| 0 <= *x) & (0 <= p[10])
 }
 
+#[tactic(auto, unfolding(crate::specs::Memory::tally_of))]
 fn tally_of(p: &[i64]) -> Tally
     requires { tally_length ≤ length p.now }
     ensures { result ≡ tally_of p.now }
@@ -203,6 +159,7 @@ fn count_at(p: &[i64], k: usize) -> u64
     size(p[k])
 }
 
+#[tactic(auto, unfolding(part::specs::Classes::packed))]
 fn classes_of(p: &[i64]) -> Classes
     requires { length p.now ≡ class_count }
     ensures { result ≡ packed (map nat_abs p.now) }
@@ -233,17 +190,18 @@ fn put(p: &mut [i64], t: Tally, c: Classes)
     put_classes(&mut p[TALLY..], c);
 }
 
+// One by one: the classes are fields, three counts to each.
 fn put_classes(p: &mut [i64], c: Classes)
     requires { length p.old ≡ class_count }
     ensures { p.new ≡ map pos (counts_of c) }
 {
-    put_three(&mut *p, 0, c.from_0);
-    put_three(&mut *p, 3, c.from_3);
-    put_three(&mut *p, 6, c.from_6);
-    put_three(&mut *p, 9, c.from_9);
-    put_three(&mut *p, 12, c.from_12);
-    put_three(&mut *p, 15, c.from_15);
-    put_three(&mut *p, 18, c.from_18);
+    put_three(p, 0, c.from_0);
+    put_three(p, 3, c.from_3);
+    put_three(p, 6, c.from_6);
+    put_three(p, 9, c.from_9);
+    put_three(p, 12, c.from_12);
+    put_three(p, 15, c.from_15);
+    put_three(p, 18, c.from_18);
 }
 
 fn put_three(p: &mut [i64], k: usize, w: u64)
@@ -260,20 +218,19 @@ fn put_tally(p: &mut [i64], t: Tally)
     requires { (length p.old ≡ tally_length) × (Small t) × (t.squares < 2 ^ 63) }
     ensures { p.new ≡ numbers t }
 {
-    p[0] = t.lolo as i64;
-    p[1] = t.lo as i64;
-    p[2] = t.ok as i64;
-    p[3] = t.hi as i64;
-    p[4] = t.hihi as i64;
-    p[5] = t.foreign as i64;
-    p[6] = t.double as i64;
-    p[7] = t.crash as i64;
-    p[8] = t.n as i64;
-    let sum = t.sum;
-    p[9] = sum;
-    p[10] = t.squares as i64;
-    let largest = t.largest;
-    p[11] = largest;
-    let smallest = t.smallest;
-    p[12] = smallest;
+    p.copy_from_slice(&[
+        t.lolo as i64,
+        t.lo as i64,
+        t.ok as i64,
+        t.hi as i64,
+        t.hihi as i64,
+        t.foreign as i64,
+        t.double as i64,
+        t.crash as i64,
+        t.n as i64,
+        t.sum,
+        t.squares as i64,
+        t.largest,
+        t.smallest,
+    ]);
 }

@@ -39,23 +39,6 @@ pub record FitTally (t : Tally) : Type 0 where
   pub largest : nat_abs t.largest ≤ 999999
   pub smallest : nat_abs t.smallest ≤ 999999
 
-pub small_tells : (t : Tally) → small_counts t ≡ true → Small t
-small_tells t h =
-    let m : ℕ = 999999 in
-    let f = each (leb t.lolo m)
-    (leb t.lo m ∷ leb t.ok m ∷ leb t.hi m ∷ leb t.hihi m ∷ leb t.foreign m ∷ leb t.double m ∷ leb t.crash m ∷ leb t.n m ∷ []) h in
-    record {
-      lolo = leb-true _ _ f.0;
-      lo = leb-true _ _ f.1.0;
-      ok = leb-true _ _ f.1.1.0;
-      hi = leb-true _ _ f.1.1.1.0;
-      hihi = leb-true _ _ f.1.1.1.1.0;
-      foreign = leb-true _ _ f.1.1.1.1.1.0;
-      double = leb-true _ _ f.1.1.1.1.1.1.0;
-      crash = leb-true _ _ f.1.1.1.1.1.1.1.0;
-      n = leb-true _ _ f.1.1.1.1.1.1.1.1.0;
-    }
-
 pub fit_tells : (t : Tally) → tally_fit t ≡ true → FitTally t
 unfolding tally_fit
 fit_tells t h =

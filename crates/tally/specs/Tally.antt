@@ -1,11 +1,11 @@
 -- 01, "A code's tally: eight counts; for graded verdicts also number n, sum S, sum of squares Q, largest, smallest".
 -- Verdicts have the numbers 1 LoLo, 2 Lo, 3 OK, 4 Hi, 5 HiHi (the grades), 6 foreign, 7 two-on, 8 crash.
-use Rattle.std.specs.Prelude.{ℕ, ◌+◌, ◌*◌, Bool, true, ◌&&◌, leb, ltb, eqb, ℤ, pos, nat_abs, ◌+ℤ◌}
+use Rattle.std.specs.Prelude.{ℕ, ◌+◌, ◌*◌, Bool, true, ◌&&◌, leb, ltb, eqb, ℤ, pos, nat_abs, ◌+ℤ◌, Option, Some, None}
+use Rattle.std.specs.Int.{from_bool}
 use Rattle.std.specs.Int.Signed.{lt_z}
 use Rattle.laws.specs.Choice.{when◌then◌else◌, within}
 use Rattle.weight.specs.Weight.{largest_weight, is_weight}
 use Rattle.tally.specs.declared.tally.Tally.{Tally}
-use Rattle.tally.specs.declared.tally.Noted.{Noted}
 
 -- "at most 999,999 verdicts"
 abbrev pub tally_limit : ℕ
@@ -66,7 +66,7 @@ is_grade v = within 1 5 v
 
 -- 1 for verdict v itself, 0 for another
 abbrev pub one : ℕ → ℕ → ℕ
-one v k = when eqb v k then 1 else 0
+one v k = from_bool (eqb v k)
 
 -- "the first graded verdict sets both"
 unfoldable pub largest_with : Tally → ℤ → ℤ
@@ -121,7 +121,6 @@ added t v net = when is_grade v then weighed_with (counted_with t v) net else co
 unfoldable pub takes : Tally → ℕ → ℤ → Bool
 takes t v net = tally_fit t && is_verdict v && is_weight net && has_room t
 
--- a verdict tallied; or given but not tallied, which leaves the tally
-unfoldable pub noted_of : Tally → ℕ → ℤ → Noted
-noted_of t v net =
-    when takes t v net then record { taken = 1; tally = added t v net } else record { taken = 0; tally = t }
+-- the tally with a verdict; none where it is given but not tallied
+unfoldable pub noted_of : Tally → ℕ → ℤ → Option Tally
+noted_of t v net = when takes t v net then Some (added t v net) else None

@@ -3,4 +3,4 @@
 
 mod tally;
 
-pub use tally::{Noted, Tally};
+pub use tally::Tally;

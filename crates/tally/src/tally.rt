@@ -2,10 +2,11 @@
 ghost use Rattle.std.specs.Prelude.{◌≡◌, true, ◌≤◌, nat_abs};
 ghost use Rattle.weight.specs.Weight.{largest_weight};
 ghost use Rattle.tally.specs.Steps.{small_counts, Small, Bounded, none_is_zero};
-ghost use Rattle.tally.specs.Tally.{graded, total, empty_tally, tally_fit, has_room, one, counted_with, weighed_with, largest_with, smallest_with, added, takes, noted_of};
+ghost use Rattle.tally.specs.Tally.{empty_tally, tally_fit, counted_with, weighed_with, largest_with, smallest_with, added, takes, noted_of};
 
 use weight::{LARGEST, is_weight, size};
 
+// Counts are of verdicts, up to 999,999 together; sum, largest and smallest are in divisions, squares in divisions squared.
 #[derive(Clone, Copy)]
 pub struct Tally {
     pub lolo: u64,
@@ -21,23 +22,6 @@ pub struct Tally {
     pub squares: u64,
     pub largest: i64,
     pub smallest: i64,
-}
-
-// What became of a verdict that was to be tallied: 1 and the tally with it, or 0 and the tally as it was.
-#[derive(Clone, Copy)]
-pub struct Noted {
-    pub taken: u64,
-    pub tally: Tally,
-}
-
-// 1 for the verdict itself, 0 for another.
-fn one_if(verdict: u64, k: u64) -> u64
-    ensures { (result ≡ one verdict k) × (result ≤ 1) }
-{
-    if verdict == k {
-        return 1;
-    }
-    0
 }
 
 impl Tally {
@@ -74,8 +58,9 @@ impl Tally {
         if !self.is_small() {
             return false;
         }
-        (self.total() <= Tally::LIMIT)
-            & (self.n == self.graded())
+        let graded = self.lolo + self.lo + self.ok + self.hi + self.hihi;
+        (graded + self.foreign + self.double + self.crash <= Tally::LIMIT)
+            & (self.n == graded)
             & (size(self.sum) <= self.n * LARGEST)
             & (self.squares <= self.n * Tally::LARGEST_SQUARE)
             & is_weight(self.largest)
@@ -83,21 +68,15 @@ impl Tally {
             & self.none_is_zero()
     }
 
-    // A verdict is tallied if there is room; the line asks only with a fit tally.
+    // The tally with a verdict, if it takes it; the line asks only with a fit tally.
     #[tactic(auto, unfolding(crate::specs::Tally::noted_of))]
-    pub fn noted(self, verdict: u64, net: i64) -> Noted
+    pub fn noted(self, verdict: u64, net: i64) -> Option<Tally>
         ensures { result ≡ noted_of self verdict net }
     {
         if self.takes(verdict, net) {
-            let next = self.added(verdict, net);
-            return Noted {
-                taken: 1,
-                tally: next,
-            };
-        }
-        Noted {
-            taken: 0,
-            tally: self,
+            Some(self.added(verdict, net))
+        } else {
+            None
         }
     }
 
@@ -108,7 +87,9 @@ impl Tally {
         if !self.fit() {
             return false;
         }
-        ((1 <= verdict) & (verdict <= 8)) & is_weight(net) & self.has_room()
+        // n counts the graded ones
+        let total = self.n + self.foreign + self.double + self.crash;
+        ((1 <= verdict) & (verdict <= 8)) & is_weight(net) & (total < Tally::LIMIT)
     }
 
     // The counts and n are tested one by one, since a sum of any eight numbers may overflow.
@@ -126,43 +107,11 @@ impl Tally {
             & (self.n <= Tally::LIMIT)
     }
 
-    fn graded(self) -> u64
-        requires { Small self }
-        ensures { result ≡ graded self }
-    {
-        self.lolo + self.lo + self.ok + self.hi + self.hihi
-    }
-
-    fn total(self) -> u64
-        requires { Small self }
-        ensures { result ≡ total self }
-    {
-        self.lolo
-            + self.lo
-            + self.ok
-            + self.hi
-            + self.hihi
-            + self.foreign
-            + self.double
-            + self.crash
-    }
-
     // With nothing graded, largest and smallest are 0.
     fn none_is_zero(self) -> bool
         ensures { result ≡ none_is_zero self }
     {
-        if self.n == 0 {
-            return (size(self.largest) == 0) & (size(self.smallest) == 0);
-        }
-        true
-    }
-
-    #[tactic(auto, unfolding(crate::specs::Tally::has_room))]
-    fn has_room(self) -> bool
-        requires { Small self }
-        ensures { result ≡ has_room self }
-    {
-        self.total() < Tally::LIMIT
+        (self.n != 0) | ((self.largest == 0) & (self.smallest == 0))
     }
 
     #[tactic(auto, unfolding(crate::specs::Tally::added))]
@@ -177,18 +126,19 @@ impl Tally {
         counted
     }
 
+    #[tactic(auto, unfolding(crate::specs::Tally::counted_with))]
     fn counted(mut self, verdict: u64) -> Tally
         requires { Small self }
         ensures { result ≡ counted_with self verdict }
     {
-        self.lolo += one_if(verdict, 1);
-        self.lo += one_if(verdict, 2);
-        self.ok += one_if(verdict, 3);
-        self.hi += one_if(verdict, 4);
-        self.hihi += one_if(verdict, 5);
-        self.foreign += one_if(verdict, 6);
-        self.double += one_if(verdict, 7);
-        self.crash += one_if(verdict, 8);
+        self.lolo += u64::from(verdict == 1);
+        self.lo += u64::from(verdict == 2);
+        self.ok += u64::from(verdict == 3);
+        self.hi += u64::from(verdict == 4);
+        self.hihi += u64::from(verdict == 5);
+        self.foreign += u64::from(verdict == 6);
+        self.double += u64::from(verdict == 7);
+        self.crash += u64::from(verdict == 8);
         self
     }
 
@@ -213,12 +163,10 @@ impl Tally {
         ensures { result ≡ largest_with self net }
     {
         if self.n == 0 {
-            return net;
+            net
+        } else {
+            self.largest.max(net)
         }
-        if self.largest < net {
-            return net;
-        }
-        self.largest
     }
 
     #[tactic(auto, unfolding(crate::specs::Tally::smallest_with))]
@@ -226,11 +174,9 @@ impl Tally {
         ensures { result ≡ smallest_with self net }
     {
         if self.n == 0 {
-            return net;
+            net
+        } else {
+            self.smallest.min(net)
         }
-        if net < self.smallest {
-            return net;
-        }
-        self.smallest
     }
 }

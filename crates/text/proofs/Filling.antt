@@ -1,24 +1,24 @@
 -- The values of a line, one behind the other: what holds before each item of the form, and how an item keeps it. Assumes nothing.
-use Prim.Native.Nat.{ℕ, zero, suc, ◌+◌, ◌≤◌, ◌<◌}
+use Prim.Native.Nat.{ℕ, suc, ◌+◌, ◌≤◌, ◌<◌}
 use mathlib.Core.Path.{◌≡◌, refl, sym, ap, ◌∙◌}
 use mathlib.Core.Bool.{Bool, true, false, not, ◌&&◌}
 use mathlib.Core.List.{List, [], ◌∷◌, ◌++◌, append_assoc, append-nil}
 use lib.ListN.{length, get_or, take, drop, set, drop_of_length-le, length-set}
-use lib.Seq.{take-suc-set}
-use lib.Dec.{leb, eqb}
+use lib.Seq.{take-suc-set, take_all}
+use lib.Dec.{eqb}
 use lib.IntN.{ℤ}
 use native.Mathlib.Omega.{arith}
 use native.Mathlib.Numerals.{add-one}
-use borrow.Author.Tests.{leb-true, leb-false, eq-eqb, not-true}
+use borrow.Author.Tests.{eq-eqb, not-true}
 use Rattle.laws.specs.Choice.{when◌then◌else◌}
-use Rattle.laws.proofs.Tests.{both, by_cases, never}
+use Rattle.laws.proofs.Tests.{both, never}
 use Rattle.numeral.specs.Number.{Head, none, some, number_head, four_head, hold}
 use Rattle.text.specs.Form.{Item, byte, number, four, Values, other, values, also, and_rest, line_values, value_count}
-use Rattle.text.specs.Read.{held, at as value}
-use Rattle.numeral.specs.Found.{byte_is, held_head, found}
-use Rattle.text.specs.Views.{is_literal, item_of, items_of, value_head, most_values, firsts}
+use Rattle.text.specs.Read.{held}
+use Rattle.numeral.specs.Found.{held_head, found}
+use Rattle.text.specs.Views.{is_literal, item_of, items_of, value_head, form_values}
 use Rattle.numeral.specs.declared.Found.{Found}
-use Rattle.numeral.specs.declared.Found.TheVariants.{Nothing, Value}
+use Rattle.std.specs.Prelude.{Option, Some, None}
 use Rattle.numeral.proofs.Heads.{Byte}
 use Rattle.lists.proofs.Past.{cut}
 
@@ -59,18 +59,14 @@ value-item c form s h = go (eqb c 35) (eqb c 36) h
     go false true h = (refl, refl)
     go false false h = never (sym h)
 
-byte-other : (c : ℕ) (form : List Item) (s : List ℕ) → byte_is c s ≡ false → line_values (byte c ∷ form) s ≡ other
-byte-other c form [] h = refl
-byte-other c form (b ∷ s) h = rw h
-
 -- before item k: the values so far and those of the rest are the line's, and there is room for those of the rest
 pub record State (line form : List ℕ) (vs : List ℤ) (count at k : ℕ) : Type 0 where
   pub inside : k ≤ length form
   pub left : count + value_count (items_of (drop k form)) ≡ value_count (items_of form)
-  pub room : length vs ≡ most_values
+  pub room : length vs ≡ value_count (items_of form)
   pub same : prepend (take count vs) (held (line_values (items_of (drop k form)) (drop at line))) ≡ held (line_values (items_of form) line)
 
-pub start : (line form : List ℕ) (vs : List ℤ) → length vs ≡ most_values → State line form vs 0 0 0
+pub start : (line form : List ℕ) (vs : List ℤ) → length vs ≡ value_count (items_of form) → State line form vs 0 0 0
 start line form vs l =
     record { inside = omega arith; left = omega arith; room = l; same = prepend_nil (held (line_values (items_of form) line)) }
 
@@ -85,11 +81,7 @@ module _ {line form : List ℕ} {vs : List ℤ} {count at k : ℕ} (st : State l
         same = rw (cut form k h, e, b.rest, eq-eqb (get_or form k 0) (get_or form k 0) refl) at st.same;
       }
 
-  pub byte-missing : is_literal (get_or form k 0) ≡ true → byte_is (get_or form k 0) (drop at line) ≡ false → other ≡ held (line_values (items_of form) line)
-  byte-missing l b =
-      rw (cut form k h, literal_item (get_or form k 0) l, byte-other (get_or form k 0) (items_of (drop (k + 1) form)) (drop at line) b) at st.same
-
-  one_value : is_literal (get_or form k 0) ≡ false → (r : Found) → found line r ≡ held_head (value_head (get_or form k 0) (drop at line))
+  one_value : is_literal (get_or form k 0) ≡ false → (r : Option Found) → found line r ≡ held_head (value_head (get_or form k 0) (drop at line))
       → prepend (take count vs) (and_rest (λ s. held (line_values (items_of (drop (k + 1) form)) s)) (found line r)) ≡ held (line_values (items_of form) line)
   one_value l r e =
       let f : List Item = items_of (drop (k + 1) form) in
@@ -99,42 +91,34 @@ module _ {line form : List ℕ} {vs : List ℤ} {count at k : ℕ} (st : State l
       ∙ sym (ap held (value-item (get_or form k 0) f (drop at line) l).0))
       ∙ (rw (cut form k h) at st.same)
 
-  pub value-missing : is_literal (get_or form k 0) ≡ false → found line Nothing ≡ held_head (value_head (get_or form k 0) (drop at line))
-      → other ≡ held (line_values (items_of form) line)
-  value-missing l e = one_value l Nothing e
-
   pub value_room_lem : is_literal (get_or form k 0) ≡ false → count + suc (value_count (items_of (drop (k + 1) form))) ≡ value_count (items_of form)
   value_room_lem l =
       let n = (value-item (get_or form k 0) (items_of (drop (k + 1) form)) [] l).1 in
       let m : count + value_count (item_of (get_or form k 0) ∷ items_of (drop (k + 1) form)) ≡ value_count (items_of form) = rw (cut form k h) at st.left in
       omega arith
 
-  pub value_found : is_literal (get_or form k 0) ≡ false → (v : ℤ) (next : ℕ) → found line (Value v next) ≡ held_head (value_head (get_or form k 0) (drop at line))
-      → value_count (items_of form) ≤ most_values → State line form (set vs count v) (count + 1) next (k + 1)
-  value_found l v next e few =
+  pub value_found : is_literal (get_or form k 0) ≡ false → (f : Found) → found line (Some f) ≡ held_head (value_head (get_or form k 0) (drop at line))
+      → State line form (set vs count f.value) (count + 1) f.next (k + 1)
+  value_found l f e =
+      let v = f.value in
       let r = value_room_lem l in
-      let room : length vs ≡ most_values = st.room in
+      let room : length vs ≡ value_count (items_of form) = st.room in
       let t : take (count + 1) (set vs count v) ≡ take count vs ++ v ∷ [] = rw add-one (take-suc-set vs count v (omega arith)) in
       record {
         inside = omega arith;
         left = omega arith;
         room = length-set vs count v ∙ room;
-        same = rw t (sym (prepend-also (take count vs) v (held (line_values (items_of (drop (k + 1) form)) (drop next line)))) ∙ one_value l (Value v next) e);
+        same = rw t (sym (prepend-also (take count vs) v (held (line_values (items_of (drop (k + 1) form)) (drop f.next line)))) ∙ one_value l (Some f) e);
       }
 
-firsts-taken : (n : ℕ) (vs : List ℤ) → n ≤ length vs → firsts n (value vs) ≡ take n vs
-firsts-taken zero vs h = refl
-firsts-taken (suc n) [] h = absurd (omega arith)
-firsts-taken (suc n) (v ∷ vs) h = ap (λ (ws : List ℤ). v ∷ ws) (firsts-taken n vs (omega arith))
-
 -- behind the last item the line must end
-module _ {line form : List ℕ} {vs : List ℤ} {count at k : ℕ} (st : State line form vs count at k) (h : length form ≤ k) (few : value_count (items_of form) ≤ most_values) where
-  pub ended : (when leb (length line) at then values (firsts (value_count (items_of form)) (value vs)) else other) ≡ held (line_values (items_of form) line)
-  ended =
+module _ {line form : List ℕ} {vs : List ℤ} {count at k : ℕ} (st : State line form vs count at k) (h : length form ≤ k) where
+  pub ended : length line ≤ at → form_values (Some vs) ≡ held (line_values (items_of form) line)
+  ended e =
       let n : count + 0 ≡ value_count (items_of form) = rw (drop_of_length-le form h) at st.left in
-      let m : value_count (items_of form) ≡ count = omega arith in
-      let room : length vs ≡ most_values = st.room in
-      by_cases (leb (length line) at)
-      (λ e. rw (e, m, firsts-taken count vs (omega arith)) (ap values (sym (append-nil (take count vs)))
-      ∙ (rw (drop_of_length-le form h, drop_of_length-le line (leb-true (length line) at e)) at st.same)))
-      (λ e. rw e (rw (drop_of_length-le form h, cut line at (leb-false (length line) at e)) at st.same))
+      let room : length vs ≡ value_count (items_of form) = st.room in
+      let all : take count vs ≡ vs = take_all count vs (omega arith) in
+      rw all at (ap values (sym (append-nil (take count vs))) ∙ (rw (drop_of_length-le form h, drop_of_length-le line e) at st.same))
+
+  pub more-text : at < length line → form_values None ≡ held (line_values (items_of form) line)
+  more-text e = rw (drop_of_length-le form h, cut line at e) at st.same

@@ -1,14 +1,14 @@
 -- A sample's text by its keys: what the quick reader tests, and what it tells of the form. Assumes nothing.
 use Prim.Native.Nat.{ℕ, ◌+◌, ◌-◌, ◌≤◌, ◌<◌, min}
 use mathlib.Core.Path.{◌≡◌, refl, sym, ap, ◌∙◌}
-use mathlib.Core.Bool.{Bool, true, false, ◌&&◌, ◌||◌, and_assoc, and-true}
+use mathlib.Core.Bool.{and_assoc, and-true, Bool, true, false, ◌&&◌, ◌||◌}
 use mathlib.Core.List.{List, [], ◌∷◌, ◌++◌, map}
 use native.Mathlib.Omega.{arith}
 use lib.Dec.{eqb}
 use lib.IntN.{ℤ, pos}
 use lib.ListN.{length, get_or, take, drop, drop_of_length-le, length-drop}
 use lib.Seq.{drop-drop, take_all}
-use borrow.Author.Tests.{eqb-true}
+use borrow.Author.Tests.{eqb-true, ne_eqb}
 use Rattle.laws.proofs.Tests.{both, by_cases, never}
 use Rattle.decimal.specs.Bytes.{bytes}
 use Rattle.numeral.specs.Number.{Head, none, some, number_head, limit, hold, unsigned_of}
@@ -16,10 +16,8 @@ use Rattle.text.specs.Form.{Item, byte, number, Values, values, also, and_rest, 
 use Rattle.text.specs.Read.{held, sample, says, first_of}
 use Rattle.numeral.specs.Found.{byte_is, held_head}
 use Rattle.text.specs.Views.{is_prefix, is_level, sensor_key, emergency_key, safety_key, foreign_key, gross_key, head_is, middle_is}
-use mathlib.Core.Logic.{◌⊎◌, ⊎_elim}
-use Rattle.event.specs.declared.Event.{Event}
+use Rattle.std.specs.Prelude.{Some, None}
 use Rattle.event.specs.declared.Event.TheVariants as event
-use Rattle.text.specs.declared.Read.{Read}
 use Rattle.text.specs.declared.Read.TheVariants as read
 use Rattle.numeral.proofs.Heads.{inside}
 use Rattle.lists.proofs.Past.{cut}
@@ -32,24 +30,18 @@ short [] s h = absurd (omega arith)
 short (k ∷ key) [] h = refl
 short (k ∷ key) (b ∷ s) h = by_cases (eqb b k) (λ e. rw e (short key s (omega arith))) (λ e. rw e refl)
 
-pub short-at : (key line : List ℕ) (at : ℕ) → length line < at + length key → 0 < length key → false ≡ is_prefix key (drop at line)
-short-at key line at h p = short key (drop at line) (simp length-drop (omega arith))
-
-pub prefix_start : (key line : List ℕ) (at : ℕ) → true && is_prefix (drop 0 key) (drop (at + 0) line) ≡ is_prefix key (drop at line)
-prefix_start key line at = let e : at + 0 ≡ at = omega arith in rw e refl
-
-pub prefix_step : (same : Bool) (key line : List ℕ) (at j : ℕ) → j < length key → at + j < length line
-    → same && is_prefix (drop j key) (drop (at + j) line)
-    ≡ (same && eqb (get_or line (at + j) 0) (get_or key j 0)) && is_prefix (drop (j + 1) key) (drop (at + (j + 1)) line)
-prefix_step same key line at j p q =
-    let e : at + j + 1 ≡ at + (j + 1) = omega arith in
-    rw (cut key j p, cut line (at + j) q, e) (sym (and_assoc same (eqb (get_or line (at + j) 0) (get_or key j 0)) _))
+pub prefix_step : (same : Bool) (key s : List ℕ) (j : ℕ) → j < length key → j < length s
+    → same && is_prefix (drop j key) (drop j s) ≡ (same && eqb (get_or s j 0) (get_or key j 0)) && is_prefix (drop (j + 1) key) (drop (j + 1) s)
+prefix_step same key s j p q =
+    rw (cut key j p, cut s j q) (sym (and_assoc same (eqb (get_or s j 0) (get_or key j 0)) _))
 
 pub prefix_end : (same : Bool) (key s : List ℕ) (j : ℕ) → length key ≤ j → same && is_prefix (drop j key) s ≡ same
 prefix_end same key s j h = rw (drop_of_length-le key h) (and-true same)
 
-pub level-end : (line : List ℕ) (i : ℕ) → length line ≤ i → false ≡ is_level (drop i line)
-level-end line i h = rw (drop_of_length-le line h)
+-- behind the end of a line stands the key of no bytes alone
+pub prefix_past : (key line : List ℕ) (at : ℕ) → length line ≤ at → eqb (length key) 0 ≡ is_prefix key (drop at line)
+prefix_past [] line at h = refl
+prefix_past (k ∷ key) line at h = rw (drop_of_length-le line h) (ne_eqb (length (k ∷ key)) 0 (λ e. absurd (omega (arith, e))))
 
 pub record Level (line : List ℕ) (i : ℕ) : Type 0 where
   pub inside : i < length line
@@ -193,16 +185,6 @@ from_place line at = take_all (length line - at) (drop at line) (simp length-dro
 pub quick_says : (line rest : List ℕ) (v g : ℤ) (sensor emergency safety foreign : ℕ)
     → sensor ≡ get_or line 7 0 - 48 → emergency ≡ get_or line 19 0 - 48 → safety ≡ unsigned_of v → foreign ≡ get_or rest 9 0 - 48
     → held (line_values sample.form line) ≡ values (pos (get_or line 7 0 - 48) ∷ pos (get_or line 19 0 - 48) ∷ v ∷ pos (get_or rest 9 0 - 48) ∷ g ∷ [])
-    → read.Event (event.Sample (record { gross = g; sensor = sensor; emergency = emergency; safety = safety; foreign = foreign })) ≡ first_of (sample ∷ []) line
+    → Some (read.Event (event.Sample (record { gross = g; sensor = sensor; emergency = emergency; safety = safety; foreign = foreign }))) ≡ first_of (sample ∷ []) line
 quick_says line rest v g sensor emergency safety foreign a b c d e =
-    rw (a, b, c, d) (sym (ap (λ (w : Values). says w sample.means read.Other) e))
-
-is_other : Read → Bool
-is_other (read.Event e) = false
-is_other (read.Report n) = false
-is_other read.Other = true
-
--- an event that the quick reader answers is what the line says
-pub quick_event : (q r : Read) (e : Event) → q ≡ read.Event e → (q ≡ read.Other) ⊎ (q ≡ r) → read.Event e ≡ r
-unfolding is_other
-quick_event q r e h d = ⊎_elim (λ o. never (ap is_other (sym h ∙ o))) (λ o. sym h ∙ o) d
+    rw (a, b, c, d) (sym (ap (λ (w : Values). says w sample.means None) e))

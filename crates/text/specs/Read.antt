@@ -1,5 +1,5 @@
 -- 01, "Text lines": what a line says.
-use Rattle.std.specs.Prelude.{ℕ, ◌+◌, List, [], ◌∷◌, ◌++◌, map, length, get_or, leb, ℤ, pos}
+use Rattle.std.specs.Prelude.{ℕ, ◌+◌, List, [], ◌∷◌, ◌++◌, map, length, get_or, leb, ℤ, pos, Option, Some, None}
 use Prim.Native.String.{String}
 use Rattle.laws.specs.Choice.{when◌then◌else◌}
 use Rattle.settings.specs.declared.Settings.{Settings}
@@ -111,18 +111,18 @@ abbrev pub kinds : List Kind
 kinds = sample ∷ setup ∷ store ∷ report ∷ commands
 
 -- what the values say, where there are some
-abbrev pub says : Values → (List ℤ → Read) → Read → Read
+abbrev pub says : Values → (List ℤ → Read) → Option Read → Option Read
 says other means next = next
-says (values vs) means next = means vs
+says (values vs) means next = Some (means vs)
 
--- what a line says by the first kind whose form it has; "a line that reads as no event and no report" is other
-abbrev pub first_of : List Kind → List ℕ → Read
-first_of [] s = read.Other
+-- what a line says by the first kind whose form it has; "a line that reads as no event and no report" says nothing
+abbrev pub first_of : List Kind → List ℕ → Option Read
+first_of [] s = None
 first_of (k ∷ more) s = says (held (line_values k.form s)) k.means (first_of more s)
 
 -- "over 120 bytes" is no line; by T-01 "Lines may be 300 bytes"
 abbrev pub longest_line : ℕ
 longest_line = 300
 
-abbrev pub read_line : List ℕ → Read
-read_line s = when leb (length s) longest_line then first_of kinds s else read.Other
+abbrev pub read_line : List ℕ → Option Read
+read_line s = when leb (length s) longest_line then first_of kinds s else None

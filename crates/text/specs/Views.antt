@@ -1,12 +1,10 @@
 -- The reader's parts in the terms of `Form`.
-use Rattle.std.specs.Prelude.{ℕ, zero, suc, Bool, true, false, not, ◌&&◌, ◌||◌, List, [], ◌∷◌, map, drop, eqb, ℤ}
+use Rattle.std.specs.Prelude.{ℕ, Bool, true, false, not, ◌&&◌, ◌||◌, List, [], ◌∷◌, map, drop, eqb, ℤ, Option, Some, None}
 use Prim.Native.Char.{code}
 use Rattle.laws.specs.Choice.{when◌then◌else◌}
 use Rattle.decimal.specs.Bytes.{bytes, digit_byte}
 use Rattle.numeral.specs.Number.{Head, number_head, four_head}
-use Rattle.text.specs.Form.{Item, byte, number, four, Values, other, values, value_count}
-use Rattle.text.specs.Read.{at}
-use Rattle.text.specs.declared.form.Fields.{Fields}
+use Rattle.text.specs.Form.{Item, byte, number, four, Values, other, values}
 
 -- the source writes a form as a text: # is a number, $ four digits, and any other byte itself
 abbrev pub is_literal : ℕ → Bool
@@ -22,22 +20,10 @@ items_of form = map item_of form
 abbrev pub value_head : ℕ → List ℕ → Head
 value_head b s = when eqb b (code "#") then number_head s else four_head s
 
--- setup's: no form has more
-abbrev pub most_values : ℕ
-most_values = 26
-
--- the first n values, each by its place
-abbrev pub firsts : ℕ → (ℕ → ℤ) → List ℤ
-firsts zero value = []
-firsts (suc n) value = value 0 ∷ firsts n (λ i. value (suc i))
-
--- the values that the reader gives for a form
-abbrev pub fields_values : List ℕ → Fields → Values
-fields_values form r = when r.ok then values (firsts (value_count (items_of form)) (at r.values)) else other
-
-abbrev pub reads : Values → Bool
-reads other = false
-reads (values vs) = true
+-- the values that the reader gives
+abbrev pub form_values : Option (List ℤ) → Values
+form_values None = other
+form_values (Some vs) = values vs
 
 -- the bytes of a key stand at the head of a text
 abbrev pub is_prefix : List ℕ → List ℕ → Bool

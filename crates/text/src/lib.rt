@@ -1,4 +1,4 @@
-// What a line of text says: an event, a report, or neither.
+// What a line of text says: an event or a report; a line that says neither is `None`.
 #![tactic(auto)]
 
 use event::Event;
@@ -18,5 +18,4 @@ pub const LONGEST_LINE: usize = 300;
 pub enum Read {
     Event(Event),
     Report(u64),
-    Other,
 }

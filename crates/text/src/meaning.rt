@@ -7,23 +7,23 @@ use numeral::unsigned_of;
 use settings::Settings;
 
 // Value i, for a field that is never negative.
-pub(crate) fn size_at(v: &[i64], i: usize) -> u64
+fn size_at(v: &[i64], i: usize) -> u64
     requires { i < length v.now }
     ensures { result ≡ size_at v.now i }
 {
     unsigned_of(v[i])
 }
 
-pub(crate) fn sample_of(v: &[i64]) -> Sample
-    requires { 4 < length v.now }
+pub(crate) fn sample_of(v: &[i64; 5]) -> Sample
     ensures { result ≡ sample_of v.now }
 {
+    let [sensor, emergency, safety, foreign, gross] = *v;
     Sample {
-        gross: v[4],
-        sensor: size_at(v, 0),
-        emergency: size_at(v, 1),
-        safety: size_at(v, 2),
-        foreign: size_at(v, 3),
+        gross,
+        sensor: unsigned_of(sensor),
+        emergency: unsigned_of(emergency),
+        safety: unsigned_of(safety),
+        foreign: unsigned_of(foreign),
     }
 }
 
@@ -39,8 +39,7 @@ fn sorter_at(v: &[i64], i: usize) -> SorterSetup
     }
 }
 
-pub(crate) fn setup_of(v: &[i64]) -> Setup
-    requires { 25 < length v.now }
+pub(crate) fn setup_of(v: &[i64; 26]) -> Setup
     ensures { result ≡ setup_of v.now }
 {
     Setup {
@@ -61,17 +60,17 @@ pub(crate) fn setup_of(v: &[i64]) -> Setup
     }
 }
 
-pub(crate) fn settings_of(v: &[i64]) -> Settings
-    requires { 7 < length v.now }
+pub(crate) fn settings_of(v: &[i64; 8]) -> Settings
     ensures { result ≡ settings_of v.now }
 {
+    let [_code, target, lolo, lo, hi, hihi, nearzero, tare] = *v;
     Settings {
-        target: v[1],
-        lolo: v[2],
-        lo: v[3],
-        hi: v[4],
-        hihi: v[5],
-        nearzero: v[6],
-        tare: v[7],
+        target,
+        lolo,
+        lo,
+        hi,
+        hihi,
+        nearzero,
+        tare,
     }
 }

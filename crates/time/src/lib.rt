@@ -18,8 +18,5 @@ pub fn is_time(t: u64) -> bool
 pub fn fallen(t: u64) -> u64
     ensures { result ≡ fallen t }
 {
-    if t == 0 {
-        return 0;
-    }
-    t - 1
+    t.saturating_sub(1)
 }

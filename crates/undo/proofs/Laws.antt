@@ -1,11 +1,11 @@
 -- What noting a verdict and putting back come to where all is fit. Assumes nothing.
-use mathlib.Core.Path.{◌≡◌, refl}
+use mathlib.Core.Path.{◌≡◌, refl, ◌∙◌}
 use mathlib.Core.Bool.{true, false, ◌&&◌}
 use mathlib.Core.List.{List}
 use Prim.Native.Nat.{ℕ}
-use native.Mathlib.Omega.{arith}
 use lib.IntN.{ℤ}
-use Rattle.laws.proofs.Tests.{both, by_cases}
+use Rattle.std.specs.Prelude.{Some, None}
+use Rattle.laws.proofs.Tests.{both, by_cases, clash}
 use Rattle.weight.specs.Weight.{is_weight}
 use Rattle.lists.specs.Counts.{one_more}
 use Rattle.tally.specs.Tally.{has_room, takes, added, noted_of, is_verdict, is_grade}
@@ -15,23 +15,9 @@ use Rattle.part.specs.Class.{class_of}
 use Rattle.part.specs.Classes.{packed, counts_of, classed_with}
 use Rattle.part.specs.Part.{Part, part_fit, added_part, takes_in}
 use Rattle.part.proofs.Laws.{FitPart, fit-part, part_fit_lem, kept-counts, added-fits}
-use Rattle.tallies.specs.Memory.{lies, fit_at, part_at, part_at_fit, with_part, written, held}
-use Rattle.tallies.proofs.Parts.{held-fit, part-is-fit, written_is}
+use Rattle.tallies.specs.Memory.{lies, fit_at, part_at, read_at, part_at_fit, with_part, written, held}
+use Rattle.tallies.proofs.Parts.{held-fit, part-is-fit, read_is, written_is}
 use Rattle.undo.specs.Undo.{takes_at}
-
--- what `Tally::noted` answers tells whether the verdict is taken
-module _ (t : Tally) (v : ℕ) (net : ℤ) where
-  pub untaken : (noted_of t v net).taken ≡ 0 → takes t v net ≡ false
-  unfolding noted_of
-  untaken h = by_cases (takes t v net) (λ y. absurd (let z = rw y at h in omega arith)) (λ n. n)
-
-  pub taken : ((noted_of t v net).taken ≡ 0 → ⊥) → takes t v net ≡ true
-  unfolding noted_of
-  taken h = by_cases (takes t v net) (λ y. y) (λ n. absurd (h (rw n refl)))
-
-  pub taken_is : takes t v net ≡ true → (noted_of t v net).tally ≡ added t v net
-  unfolding noted_of
-  taken_is y = rw y refl
 
 module _ (ts : List ℤ) (c v : ℕ) (net target : ℤ) where
   -- a part that is unfit, or a target that is no weight, takes nothing
@@ -42,10 +28,25 @@ module _ (ts : List ℤ) (c v : ℕ) (net target : ℤ) where
       (λ y. let w : is_weight target ≡ false = rw y at h in rw (y, part-is-fit ts c y, w) refl)
       (λ n. rw n refl)
 
-  -- else it is taken as the tally takes it
-  pub takes_at_lem : (fit_at ts c && is_weight target) ≡ true → takes_at ts c v net target ≡ takes (part_at ts c).tally v net
-  unfolding takes_at takes_in
-  takes_at_lem h = let b = both (fit_at ts c) (is_weight target) h in rw (b.0, part-is-fit ts c b.0, b.1) refl
+  -- else it is taken as the tally that is read takes it
+  module _ (sound : (fit_at ts c && is_weight target) ≡ true) (t : Tally) (read : t ≡ (read_at ts c).tally) where
+    there : t ≡ (part_at ts c).tally
+    there = rw (read_is ts c (both (fit_at ts c) (is_weight target) sound).0) at read
+
+    as-taken : takes_at ts c v net target ≡ takes t v net
+    unfolding takes_at takes_in
+    as-taken = let b = both (fit_at ts c) (is_weight target) sound in rw (there, b.0, part-is-fit ts c b.0, b.1) refl
+
+    pub untaken : noted_of t v net ≡ None → takes_at ts c v net target ≡ false
+    unfolding noted_of
+    untaken h = as-taken ∙ by_cases (takes t v net) (λ y. clash (let z = rw y at h in cc)) (λ n. n)
+
+    pub taken : (next : Tally) → noted_of t v net ≡ Some next → (takes_at ts c v net target ≡ true) × (next ≡ added (part_at ts c).tally v net)
+    unfolding noted_of
+    taken next h =
+        by_cases (takes t v net)
+        (λ y. (as-taken ∙ y, let z = rw (y, there) at h in cc))
+        (λ n. clash (let z = rw n at h in cc))
 
   module _ (h : takes_at ts c v net target ≡ true) where
     abbrev p : Part

@@ -8,8 +8,8 @@ use part::Classes;
 use tally::Tally;
 use weight::is_weight;
 
-// The chance to cancel: 1 with a code's tally and class counts as before the last verdict, or 0. A number, not a bool or an
-// enum: what the compiler copies behind those costs time on every line of text.
+// The chance to cancel: 1 with a code's tally and class counts as before the last verdict, or 0. It stays a number with the
+// values beside it, and no Option: measured, what the compiler copies behind a bool or an enum's tag costs time on every line.
 #[derive(Clone, Copy)]
 pub struct Undo {
     pub chance: u64,
@@ -44,27 +44,23 @@ impl Undo {
         self.chance == 0
     }
 
+    #[tactic(auto, unfolding(crate::specs::Undo::undo_fit))]
     pub fn fit(self) -> bool
         ensures { result ≡ undo_fit self }
     {
-        if self.chance == 0 {
+        if self.is_nothing() {
             return true;
         }
-        let t = self.tally;
-        let classes = self.classes;
-        t.fit() & (classes.total() == t.n)
+        self.tally.fit() & (self.classes.total() == self.tally.n)
     }
 
     // A cancel: the kept tally and class counts go back to code's part.
     pub fn put_back(self, tallies: &mut [i64], code: u64)
         ensures { tallies.new ≡ put_back tallies.old code self }
     {
-        if self.chance == 0 {
-            return;
+        if !self.is_nothing() {
+            tallies::write(tallies, code, self.tally, self.classes);
         }
-        let t = self.tally;
-        let classes = self.classes;
-        tallies::write(tallies, code, t, classes);
     }
 }
 
@@ -74,16 +70,14 @@ pub fn note(tallies: &mut [i64], code: u64, verdict: u64, net: i64, target: i64)
     ensures kept { result ≡ kept_of tallies.old code verdict net target }
     ensures memory { tallies.new ≡ noted_in tallies.old code verdict net target }
 {
-    if !(tallies::fit_at(&*tallies, code) & is_weight(target)) {
+    if !(tallies::fit_at(tallies, code) & is_weight(target)) {
         return Undo::nothing();
     }
-    let before = tallies::read(&*tallies, code);
-    let noted = before.noted(verdict, net);
-    if noted.taken == 0 {
+    let before = tallies::read(tallies, code);
+    let Some(next) = before.noted(verdict, net) else {
         return Undo::nothing();
-    }
-    let classes = tallies::classes(&*tallies, code);
-    let next = noted.tally;
+    };
+    let classes = tallies::classes(tallies, code);
     tallies::write(tallies, code, next, classes.with(verdict, net, target));
     Undo::kept(before, classes)
 }

@@ -15,7 +15,6 @@ use Rattle.weight.specs.Cases.{quotient, remainder, holds, result_of, OneCase}
 use Rattle.weight.specs.declared.rounding.Case.{Case}
 use Rattle.weight.specs.declared.rounding.Case.TheVariants.{Below, Half, Above, NegativeBelow, NegativeHalf, NegativeAbove}
 use Rattle.weight.proofs.Sign.{as_pos, as_neg}
-use Rattle.weight.proofs.Nearest.{rounded_le}
 
 -- a sum is at least 0 or negative
 not_at_least : (s : ℤ) → lt_z s (pos 0) ≡ true → le_z (pos 0) s ≡ false
@@ -82,8 +81,8 @@ module _ (s : ℤ) (n : ℕ) where
       (λ z. by_thirds twice n (λ b. (Below, and_intro z b)) (λ h. (Half, and_intro z h)) (λ a. (Above, and_intro z a)))
       (λ f. let z = negative s f in by_thirds twice n (λ b. (NegativeBelow, and_intro z b)) (λ h. (NegativeHalf, and_intro z h)) (λ a. (NegativeAbove, and_intro z a)))
 
-  pub one-case : OneCase s n
-  one-case = let c = some-case in record { case = c.0; applies = c.1; alone = λ d g. is-chosen d g ∙ sym (is-chosen c.0 c.1) }
+  pub one_case : OneCase s n
+  one_case = let c = some-case in record { case = c.0; applies = c.1; alone = λ d g. is-chosen d g ∙ sym (is-chosen c.0 c.1) }
 
   -- the quotient, and one more from half on
   whole : ltb twice n ≡ true → nearest (nat_abs s) n ≡ quotient s n
@@ -116,7 +115,3 @@ module _ (s : ℤ) (n : ℕ) where
   rounded_by NegativeBelow h = let b = both _ _ h in as_negative b.0 (whole b.1)
   rounded_by NegativeHalf h = let b = both _ _ h in as_negative b.0 (one_more_lem (from-half b.1))
   rounded_by NegativeAbove h = let b = both _ _ h in as_negative b.0 (one_more_lem (from-above b.1))
-
-  -- so a case's result is no larger than the sum
-  pub result_le : 0 < n → (c : Case) → holds c s n ≡ true → nat_abs (result_of c s n) ≤ nat_abs s
-  result_le p c h = rw (rounded_by c h) at (rounded_le s n p)

@@ -1,8 +1,6 @@
 -- 01, "Events", step 6, and "The sheet's figures": a sum over a number, "to the nearest, halves away from zero".
-use Rattle.std.specs.Prelude.{ℕ, ◌+◌, ◌*◌, ◌/◌, ◌%◌, leb, eqb, ℤ, pos, negsuc, neg_ℤ, nat_abs}
+use Rattle.std.specs.Prelude.{ℕ, ◌+◌, ◌*◌, ◌/◌, ◌%◌, leb, eqb, ℤ, pos, negsuc, neg_ℤ, nat_abs, Option, Some, None}
 use Rattle.laws.specs.Choice.{when◌then◌else◌}
-use Rattle.weight.specs.declared.Figure.{Figure}
-use Rattle.weight.specs.declared.Figure.TheVariants.{None, Of}
 
 -- m over n: the whole quotient, and one more from half on
 unfoldable pub nearest : ℕ → ℕ → ℕ
@@ -18,5 +16,5 @@ unfoldable pub rounded : ℤ → ℕ → ℤ
 rounded s n = with_sign s (nearest (nat_abs s) n)
 
 -- a mean is none where there is nothing to divide by
-abbrev pub mean_of : ℤ → ℕ → Figure
-mean_of s n = when eqb n 0 then None else Of (rounded s n)
+abbrev pub mean_of : ℤ → ℕ → Option ℤ
+mean_of s n = when eqb n 0 then None else Some (rounded s n)

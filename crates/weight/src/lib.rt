@@ -11,28 +11,16 @@ pub use rounding::{Case, mean_of, rounding_by_cases};
 // The largest weight, in divisions.
 pub const LARGEST: u64 = 999_999;
 
-// A figure of the sheet, which may be none.
-#[derive(Clone, Copy)]
-pub enum Figure {
-    None,
-    Of(i64),
-}
-
 // The size of a number, without its sign.
 pub fn size(x: i64) -> u64
     ensures { result ≡ nat_abs x }
 {
-    if 0 <= x {
-        return x as u64;
-    }
-    let y = -1 - x;
-    (y as u64) + 1
+    x.unsigned_abs()
 }
 
 // -LARGEST to LARGEST
 pub fn is_weight(x: i64) -> bool
     ensures { result ≡ is_weight x }
 {
-    let most = LARGEST as i64;
-    (0 - most <= x) & (x <= most)
+    size(x) <= LARGEST
 }

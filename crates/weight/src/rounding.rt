@@ -3,7 +3,8 @@ ghost use Rattle.std.specs.Prelude.{◌≡◌, true, ◌≤◌, ◌<◌, ◌^◌
 ghost use Rattle.weight.specs.Mean.{mean_of};
 ghost use Rattle.weight.specs.Cases.{holds, result_of, RoundingByCases};
 
-use crate::{Figure, size};
+use crate::size;
+use std::cmp::Ordering;
 
 // The remainder below half, exactly half or above half of the number; the sum at least 0 or negative.
 #[derive(Clone, Copy)]
@@ -17,18 +18,18 @@ pub enum Case {
 }
 
 // The sum over n to the nearest, halves away from zero; none at n = 0.
-pub fn mean_of(sum: i64, n: u64) -> Figure
+#[tactic(auto, using(crate::proofs::Cases::rounded_by))]
+pub fn mean_of(sum: i64, n: u64) -> Option<i64>
     ensures { result ≡ mean_of sum n }
 {
     if n == 0 {
-        return Figure::None;
+        return None;
     }
-    let case = case_of(sum, n);
-    let mean = case.result(sum, n);
-    Figure::Of(mean)
+    Some(case_of(sum, n).result(sum, n))
 }
 
 // Exactly one case holds, each has its own result, and that is the rounding.
+#[tactic(auto, unfolding(crate::specs::Mean::nearest, crate::specs::Mean::rounded), using(crate::proofs::Cases::one_case, crate::proofs::Cases::rounded_by))]
 pub fn rounding_by_cases()
     ensures { RoundingByCases }
 {}
@@ -39,23 +40,14 @@ fn case_of(sum: i64, n: u64) -> Case
     ensures { holds result sum n ≡ true }
 {
     let remainder = size(sum) % n;
-    let lacks = n - remainder;
-    if 0 <= sum {
-        if remainder < lacks {
-            return Case::Below;
-        }
-        if remainder == lacks {
-            return Case::Half;
-        }
-        return Case::Above;
+    match (0 <= sum, remainder.cmp(&(n - remainder))) {
+        (true, Ordering::Less) => Case::Below,
+        (true, Ordering::Equal) => Case::Half,
+        (true, Ordering::Greater) => Case::Above,
+        (false, Ordering::Less) => Case::NegativeBelow,
+        (false, Ordering::Equal) => Case::NegativeHalf,
+        (false, Ordering::Greater) => Case::NegativeAbove,
     }
-    if remainder < lacks {
-        return Case::NegativeBelow;
-    }
-    if remainder == lacks {
-        return Case::NegativeHalf;
-    }
-    Case::NegativeAbove
 }
 
 impl Case {
@@ -76,14 +68,10 @@ impl Case {
     }
 }
 
-// q with a minus: -1 less q - 1, since q itself may be 2^63.
+// q with a minus. Exact: q itself may be 2^63, and that is the largest which a minus leaves room for.
 fn negative(q: u64) -> i64
     requires { q ≤ 2 ^ 63 }
     ensures { result ≡ neg_ℤ (pos q) }
 {
-    if q == 0 {
-        return 0;
-    }
-    let p = (q - 1) as i64;
-    -1 - p
+    0i64.saturating_sub_unsigned(q)
 }

@@ -2,6 +2,7 @@
 use mathlib.Core.Path.{◌≡◌, refl}
 use mathlib.Core.List.{List, [], ◌∷◌, ◌++◌}
 use Prim.Native.Nat.{ℕ}
+use Rattle.std.specs.Prelude.{Option, Some, None}
 use Rattle.event.specs.declared.Event.{Event}
 use Rattle.claim.specs.Run.{World, after, run_from, run, fresh_world}
 use Rattle.claim.proofs.Every.{claim}
@@ -35,12 +36,12 @@ abbrev Runs : List (List ℕ) → World → Type 0
 Runs ls w = state_behind w.state ls ≡ (run_from w (events_of ls)).state
 
 -- a line of text that says r, and the lines behind it
-line-runs : (w : World) (ls : List (List ℕ)) (r : Read) → ((k : World) → Runs ls k)
+line-runs : (w : World) (ls : List (List ℕ)) (r : Option Read) → ((k : World) → Runs ls k)
     → state_behind (state_after w.state r) ls ≡ (run_from w (event_in r ++ events_of ls)).state
 unfolding state_after
-line-runs w ls (read.Event e) rest = rw (ran-one w e (events_of ls)) (rest (after w e))
-line-runs w ls (read.Report code) rest = rest w
-line-runs w ls read.Other rest = rest w
+line-runs w ls (Some (read.Event e)) rest = rw (ran-one w e (events_of ls)) (rest (after w e))
+line-runs w ls (Some (read.Report code)) rest = rest w
+line-runs w ls None rest = rest w
 
 runs : (ls : List (List ℕ)) (w : World) → Runs ls w
 runs [] w = rw (behind-none w.state, events-none, ran-none w) refl

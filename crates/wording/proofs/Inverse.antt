@@ -16,7 +16,8 @@ use Rattle.decimal.proofs.Digits.{decimal_digit, decimal-more, by_digits}
 use Rattle.numeral.specs.Number.{Head, none, some, is_digit, signed, digits, positive, number_head, four_digits, four_number, four_head, four_text}
 use Rattle.text.specs.Form.{Item, byte, number, four, word_items, field_items, more_items, fields_form, Values, other, values, also, and_rest, line_values, line_text}
 use Rattle.wording.specs.OneText.{OneText}
-use Rattle.numeral.specs.Found.{digit_from}
+use Rattle.std.specs.Prelude.{None}
+use Rattle.numeral.specs.Found.{digit_head}
 use Rattle.numeral.proofs.Heads.{digits-end, digit-bounds, four-bounds}
 
 -- Writing, then reading.
@@ -60,11 +61,11 @@ head-leads [] h = absurd h
 head-leads (b ∷ s) (lo, hi) = simp (ne_eqb b 48 (λ e. omega arith), ne_eqb b 45 (λ e. omega arith))
 
 -- a number from 1 is read from its text
-positive_of_text : (below : Bool) (n : ℕ) (t : List ℕ) → 1 ≤ n → digit_from 48 t ≡ false → positive below (decimal n ++ t) ≡ some (signed below n) t
+positive_of_text : (below : Bool) (n : ℕ) (t : List ℕ) → 1 ≤ n → None ≡ digit_head t → positive below (decimal n ++ t) ≡ some (signed below n) t
 positive_of_text below n t p h =
     positive-leads below (decimal n ++ t) (leads n t p) ∙ digits_of_text below n t ∙ digits-end below n t h
 
-head_of_text : (v : ℤ) (t : List ℕ) → digit_from 48 t ≡ false → number_head (number_text v ++ t) ≡ some v t
+head_of_text : (v : ℤ) (t : List ℕ) → None ≡ digit_head t → number_head (number_text v ++ t) ≡ some v t
 head_of_text (pos zero) t h = rw (decimal_digit 0 (omega arith))
 head_of_text (pos (suc n)) t h =
     head-leads (decimal (suc n) ++ t) (leads (suc n) t (omega arith)) ∙ positive_of_text false (suc n) t (omega arith) h
@@ -82,9 +83,9 @@ starts (byte c ∷ form) = is_digit c
 starts (number ∷ form) = true
 starts (four ∷ form) = true
 
-text-starts : (form : List Item) (vs : List ℤ) → starts form ≡ false → digit_from 48 (line_text form vs) ≡ false
+text-starts : (form : List Item) (vs : List ℤ) → starts form ≡ false → None ≡ digit_head (line_text form vs)
 text-starts [] vs h = refl
-text-starts (byte c ∷ form) vs h = h
+text-starts (byte c ∷ form) vs h = rw h refl
 text-starts (number ∷ form) vs h = never (sym h)
 text-starts (four ∷ form) vs h = never (sym h)
 

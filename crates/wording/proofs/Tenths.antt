@@ -11,7 +11,7 @@ use Rattle.lists.proofs.Each.{without_more}
 use Rattle.decimal.specs.Number.{decimal}
 use Rattle.decimal.proofs.Digits.{decimal_digit, by_digits}
 use Rattle.numeral.specs.Number.{some, digits}
-use Rattle.spread.specs.declared.Spread.TheVariants.{Of}
+use Rattle.std.specs.Prelude.{Some}
 use Rattle.print.specs.Sheet.{spread_text}
 use Rattle.wording.specs.Tenths.{point, without_point}
 use Rattle.wording.proofs.Inverse.{digits-one, digits_of_text}
@@ -31,9 +31,9 @@ point_goes : (t : List ℕ) → without_point (point ∷ t) ≡ without_point t
 unfolding without
 point_goes t = refl
 
-pub read_back : (s : ℕ) → digits false 0 (without_point (spread_text (Of s))) ≡ some (pos s) []
+pub read_back : (s : ℕ) → digits false 0 (without_point (spread_text (Some s))) ≡ some (pos s) []
 read_back s =
     let e : s / 10 * 10 + s % 10 ≡ s = omega arith in
-    let t : without_point (spread_text (Of s)) ≡ decimal (s / 10) ++ decimal (s % 10) =
+    let t : without_point (spread_text (Some s)) ≡ decimal (s / 10) ++ decimal (s % 10) =
     without_more _ (decimal (s / 10)) (point ∷ decimal (s % 10)) ∙ rw (point_goes (decimal (s % 10)), digits_stay (s / 10), digits_stay (s % 10)) in
     rw (t, digits_of_text false (s / 10) (decimal (s % 10)), decimal_digit (s % 10) (omega arith), digits-one false (s / 10) (s % 10) [] (omega arith), e)

@@ -1,5 +1,5 @@
 -- Demand 3 for text: behind every input the line and both memories are those that the events of its lines give, from a fresh line and memory, and of these the claim holds.
-use Rattle.std.specs.Prelude.{ℕ, ◌≡◌, List, [], ◌∷◌, ◌++◌}
+use Rattle.std.specs.Prelude.{ℕ, ◌≡◌, List, [], ◌∷◌, ◌++◌, Option, Some, None}
 use Rattle.event.specs.declared.Event.{Event}
 use Rattle.line.specs.State.{fresh_state}
 use Rattle.claim.specs.Run.{run}
@@ -11,10 +11,10 @@ use Rattle.text.specs.declared.Read.TheVariants as read
 use Rattle.controller.specs.Input.{lines_of, state_behind}
 
 -- the event that a line of text says, if it says one
-abbrev pub event_in : Read → List Event
-event_in (read.Event e) = e ∷ []
-event_in (read.Report code) = []
-event_in read.Other = []
+abbrev pub event_in : Option Read → List Event
+event_in (Some (read.Event e)) = e ∷ []
+event_in (Some (read.Report code)) = []
+event_in None = []
 
 unfoldable pub events_of : List (List ℕ) → List Event
 events_of [] = []

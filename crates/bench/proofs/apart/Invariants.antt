@@ -1,16 +1,12 @@
 -- What the loop keeps.
 use mathlib.Core.Path.{◌≡◌}
-use Prim.Native.Nat.{◌-◌, ◌≤◌}
-use lib.ListN.{length, drop}
+use lib.ListN.{drop}
+use Rattle.std.specs.Int.{int_max, int_min}
 use Rattle.lists.specs.Each.{folded}
-use Rattle.bench.specs.Bench.{last_ticks, larger, smaller, largest_of, smallest_of}
+use Rattle.bench.specs.Bench.{largest_of, smallest_of}
 use Rattle.bench.proofs.apart.Given as goal
 
-abbrev pub invariant-loop-i : goal.invariant-loop-i
-invariant-loop-i l =
-    (length l.grosses ≡ last_ticks) × (l.i ≤ last_ticks)
-    × (largest_of l.grosses ≡ folded larger l.largest (drop l.i l.grosses))
-    × (smallest_of l.grosses ≡ folded smaller l.smallest (drop l.i l.grosses))
-
-abbrev pub decreases-loop-i : goal.decreases-loop-i
-decreases-loop-i l = last_ticks - l.i
+abbrev pub invariant-loop-gross : goal.invariant-loop-gross
+invariant-loop-gross l =
+    (largest_of l.fn.grosses ≡ folded int_max l.largest (drop l.gross-index l.gross-items))
+    × (smallest_of l.fn.grosses ≡ folded int_min l.smallest (drop l.gross-index l.gross-items))

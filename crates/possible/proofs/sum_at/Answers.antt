@@ -12,34 +12,34 @@ use Rattle.possible.specs.Bounds.{clipped}
 use Rattle.possible.proofs.Machine.{weight-at, adding_start, adding-fits, adding-more, adding-done}
 use Rattle.possible.proofs.sum_at.Goals as goal
 
-pub loop-i-init : goal.loop-i-init
-loop-i-init c = adding_start (to_z w64 (of_z w64 c.args.d)) c.args.samples.now
+pub loop-x-init : goal.loop-x-init
+loop-x-init c = adding_start (to_z w64 (of_z w64 c.args.d)) c.args.samples.now
 
 pub clipped-sum-requires : goal.clipped-sum-requires
 clipped-sum-requires c =
-    let l = c.loop-i in
-    let z = get_or c.args.samples.now l.i (pos 0) in
-    rw (back z (search rules), to_z-of_z c.ranges.d) (weight-at c.args.samples.now l.i c.requires.0 (omega arith), c.requires.1)
+    let l = c.loop-x in
+    let z = get_or c.args.samples.now l.x-index (pos 0) in
+    rw (back z (search rules), to_z-of_z c.ranges.d) (weight-at c.args.samples.now l.x-index c.requires.0 (omega arith), c.requires.1)
 
 pub overflow_add-sum : goal.overflow_add-sum
 overflow_add-sum c =
-    let l = c.loop-i in
-    let z = get_or c.args.samples.now l.i (pos 0) in
+    let l = c.loop-x in
+    let z = get_or c.args.samples.now l.x-index (pos 0) in
     let next : c.clipped-sum.result ≡ clipped c.args.d z = rw (back z (search rules), to_z-of_z c.ranges.d) at c.clipped-sum.ensures in
     let so-far = rw (to_z-of_z c.ranges.d) at l.invariant in
-    rw (back c.clipped-sum.result (search rules)) (adding-fits _ _ _ l.i so-far c.requires.2 (omega arith) _ next)
+    rw (back c.clipped-sum.result (search rules)) (adding-fits _ _ _ l.x-index so-far c.requires.2 (omega arith) _ next)
 
-pub loop-i-preserved : goal.loop-i-preserved
-loop-i-preserved c =
-    let l = c.loop-i in
-    let z = get_or c.args.samples.now l.i (pos 0) in
+pub loop-x-preserved : goal.loop-x-preserved
+loop-x-preserved c =
+    let l = c.loop-x in
+    let z = get_or c.args.samples.now l.x-index (pos 0) in
     let next : c.clipped-sum.result ≡ clipped c.args.d z = rw (back z (search rules), to_z-of_z c.ranges.d) at c.clipped-sum.ensures in
     let so-far = rw (to_z-of_z c.ranges.d) at l.invariant in
-    let fits = adding-fits _ _ _ l.i so-far c.requires.2 (omega arith) _ next in
-    rw (back c.clipped-sum.result (search rules), to_z-of_z c.ranges.d, to_z-of_z fits) (adding-more _ _ _ l.i so-far c.requires.2 (omega arith) _ next)
+    let fits = adding-fits _ _ _ l.x-index so-far c.requires.2 (omega arith) _ next in
+    rw (back c.clipped-sum.result (search rules), to_z-of_z c.ranges.d, to_z-of_z fits) (adding-more _ _ _ l.x-index so-far c.requires.2 (omega arith) _ next)
 
 pub returns : goal.returns
 returns c =
-    let l = c.loop-i in
+    let l = c.loop-x in
     let so-far = rw (to_z-of_z c.ranges.d) at l.invariant in
-    adding-done _ _ _ l.i so-far c.loop-i-test.false
+    adding-done _ _ _ l.x-index so-far c.loop-x-test.false

@@ -13,11 +13,6 @@ use Rattle.spread.proofs.Roots.{root-only}
 use Rattle.spread.proofs.Tallies.{fit-facts, below-first-end}
 use Rattle.spread.proofs.over.Goals as goal
 
-pub apart-requires : goal.apart-requires
-apart-requires c =
-    let passed : (let a = c.args in (ltb 0 a.m ≡ true) × (report_fit a.t ≡ true)) = both _ _ (rw c.fit.ensures at c.if-m-fit.true) in
-    passed.1
-
 pub root-requires : goal.root-requires
 root-requires c =
     let passed : (let a = c.args in (ltb 0 a.m ≡ true) × (report_fit a.t ≡ true)) = both _ _ (rw c.fit.ensures at c.if-m-fit.true) in

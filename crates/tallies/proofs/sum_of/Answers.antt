@@ -1,8 +1,7 @@
 -- `sum_of`: the counts before place i are added. Assumes nothing.
-use borrow.Author.Rules.{rules}
 use mathlib.Core.List.{List}
 use mathlib.Core.Bool.{true}
-use mathlib.Core.Path.{◌≡◌, ◌∙◌}
+use mathlib.Core.Path.{◌≡◌, ap, ◌∙◌}
 use Prim.Native.Nat.{ℕ, ◌<◌, ◌≤◌}
 use native.Mathlib.Omega.{arith}
 use lib.IntN.{ℤ, pos, nat_abs}
@@ -15,31 +14,28 @@ use Rattle.tallies.specs.Memory.{small_count}
 use Rattle.tallies.proofs.Counts.{small_at, small_is, sum-next, sum-end}
 use Rattle.tallies.proofs.sum_of.Goals as goal
 
-pub loop-i-init : goal.loop-i-init
-loop-i-init c = (search rules, omega arith, omega arith, omega arith)
-
--- the number at place i was tested: it is its size, which is small
-size_is : (p : List ℤ) (i : ℕ) → length p ≡ 21 → i < 21 → all_of small_count p ≡ true → let x = get_or p i (pos 0) in
-    (to_z w64 (of_z w64 x) ≡ pos (nat_abs x)) × (nat_abs x ≤ 1048575)
-size_is p i l b s =
+-- a number that was tested is its size, which is small
+size_is : (p : List ℤ) (i n : ℕ) → i < length p → all_of small_count p ≡ true → n ≡ nat_abs (to_z w64 (of_z w64 (get_or p i (pos 0))))
+    → (n ≡ nat_abs (get_or p i (pos 0))) × (n ≤ 1048575)
+size_is p i n h s e =
     let x = get_or p i (pos 0) in
-    let m = small_is x (small_at p i (omega arith) s) in
-    (back x (sfits_abs x (omega (arith, m.1))).sfits ∙ m.0, m.1)
-
-pub overflow_cast-sum : goal.overflow_cast-sum
-overflow_cast-sum c = rw (size_is c.args.p.now c.loop-i.i c.requires.0 c.loop-i-test.true c.requires.1).0 (tt, record { fits = omega (arith, (size_is c.args.p.now c.loop-i.i c.requires.0 c.loop-i-test.true c.requires.1).1) })
+    let m = small_is x (small_at p i h s) in
+    let same : n ≡ nat_abs x = e ∙ ap nat_abs (back x (sfits_abs x (omega (arith, m.1))).sfits) in
+    (same, omega (arith, m.1, same))
 
 pub overflow_add-sum : goal.overflow_add-sum
-overflow_add-sum c = rw (size_is c.args.p.now c.loop-i.i c.requires.0 c.loop-i-test.true c.requires.1).0 (record { fits = omega (arith, (size_is c.args.p.now c.loop-i.i c.requires.0 c.loop-i-test.true c.requires.1).1) })
+overflow_add-sum c =
+    let l = c.loop-x in
+    omega (arith, size_is c.args.p.now l.x-index _ c.loop-x-test.true c.requires.1 c.size-sum.ensures)
 
-pub loop-i-preserved : goal.loop-i-preserved
-loop-i-preserved c =
-    let l = c.loop-i in
+pub loop-x-preserved : goal.loop-x-preserved
+loop-x-preserved c =
+    let l = c.loop-x in
     let w = c.args.p.now in
-    rw (size_is c.args.p.now c.loop-i.i c.requires.0 c.loop-i-test.true c.requires.1).0
-    (l.invariant.0, omega arith, omega (arith, (size_is c.args.p.now c.loop-i.i c.requires.0 c.loop-i-test.true c.requires.1).1), omega (arith, l.invariant.3, sum-next w l.i (omega arith)))
+    let e = size_is w l.x-index _ c.loop-x-test.true c.requires.1 c.size-sum.ensures in
+    (omega (arith, e.1), omega (arith, l.invariant.1, e.0, sum-next w l.x-index (omega arith)))
 
 pub returns : goal.returns
 returns c =
-    let l = c.loop-i in
-    omega (arith, l.invariant.3, sum-end c.args.p.now l.i (omega arith))
+    let l = c.loop-x in
+    omega (arith, l.invariant.1, sum-end c.args.p.now l.x-index (omega arith))

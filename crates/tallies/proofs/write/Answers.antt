@@ -1,63 +1,51 @@
 -- `write` puts what is fit into code's part, and else leaves the memory. Assumes nothing.
-use borrow.Author.Rules.{rules}
-use mathlib.Core.Path.{◌≡◌, sym, ◌∙◌}
-use mathlib.Core.Bool.{true, false}
-use Prim.Native.Nat.{◌+◌, ◌*◌}
+use mathlib.Core.Path.{◌≡◌, refl, sym, ◌∙◌}
+use mathlib.Core.Bool.{Bool, true, false, ◌&&◌}
+use Prim.Native.Nat.{ℕ, ◌+◌}
 use native.Mathlib.Omega.{arith}
 use lib.Dec.{eqb}
+use lib.ListN.{length-take, length-drop}
 use borrow.Rule.Slice.PartMut.{Post-is}
-use borrow.Author.Tests.{lt-leb, le-leb, eq-eqb, ne_eqb}
+use Rattle.laws.proofs.Tests.{both, by_cases}
 use Rattle.lists.specs.Counts.{add_up}
 use Rattle.tally.specs.Tally.{tally_fit}
+use Rattle.tally.specs.declared.tally.Tally.{Tally}
 use Rattle.tally.proofs.Facts.{fit_tells}
 use Rattle.part.specs.Classes.{counts_of}
 use Rattle.part.specs.Part.{part_fit}
 use Rattle.part.specs.declared.classes.Classes.{Classes}
-use Rattle.tally.specs.declared.tally.Tally.{Tally}
 use Rattle.tallies.specs.Memory.{held, with_part}
+use Rattle.tallies.proofs.Starts.{starts-not, starts-there, start_is, start-room}
 use Rattle.tallies.proofs.write.Goals as goal
 
-pub returns-then-code-gt-LAST_CODE : goal.returns-then-code-gt-LAST_CODE
-returns-then-code-gt-LAST_CODE c = rw (lt-leb _ _ c.if-code-gt-LAST_CODE.true)
+pub returns-in_default : goal.returns-in_default
+returns-in_default c = rw (starts-not c.args.tallies.now c.args.code (sym c.start_of.ensures ∙ c.in_default.is))
 
-pub returns-then-tallies-ne-LENGTH : goal.returns-then-tallies-ne-LENGTH
-returns-then-tallies-ne-LENGTH c = rw (le-leb _ _ c.if-code-gt-LAST_CODE.false, ne_eqb _ _ c.if-tallies-ne-LENGTH.true)
-
-pub returns-then-not-fit : goal.returns-then-not-fit
-unfolding part_fit
-returns-then-not-fit c =
-    let h : tally_fit c.args.t ≡ false = sym c.fit.ensures ∙ c.if-not-fit.true in
-    rw (le-leb _ _ c.if-code-gt-LAST_CODE.false, eq-eqb _ _ c.if-tallies-ne-LENGTH.false, h)
-
-pub returns-then-total-t : goal.returns-then-total-t
+-- what was tested is that the part is fit
+held-fit : (t : Tally) (c : Classes) (f : Bool) (n : ℕ) → f ≡ tally_fit t → n ≡ add_up (counts_of c) → (f && eqb n t.n) ≡ part_fit (held t c)
 unfolding part_fit counts_of
-returns-then-total-t c =
-    let fit-was : tally_fit c.args.t ≡ true = sym c.fit.ensures ∙ c.if-not-fit.false in
-    let a = c.args in
-    let h : eqb (add_up (counts_of a.c)) a.t.n ≡ false = ne_eqb _ _ (λ z. c.if-total-t.true (c.total.ensures ∙ z)) in
-    rw (le-leb _ _ c.if-code-gt-LAST_CODE.false, eq-eqb _ _ c.if-tallies-ne-LENGTH.false, fit-was, h)
-
-held_was : (t : Tally) (c : Classes) → tally_fit t ≡ true → eqb (add_up (counts_of c)) t.n ≡ true → part_fit (held t c) ≡ true
-unfolding part_fit counts_of
-held_was t c f e = rw (f, e)
+held-fit t c f n e g = rw (e, g) (by_cases (tally_fit t) (λ h. rw h refl) (λ h. rw h refl))
 
 pub put-requires : goal.put-requires
 put-requires c =
-    let fit-was : tally_fit c.args.t ≡ true = sym c.fit.ensures ∙ c.if-not-fit.false in
-    let f = fit_tells c.args.t fit-was in
-    (search rules, f.small, omega (arith, f.bounds.squares, f.bounds.n))
+    let h = both c.fit.result _ c.if-fit-total.true in
+    let f = fit_tells c.args.t (sym c.fit.ensures ∙ h.0) in
+    let a = c.args in
+    let room = start-room a.tallies.now a.code c.in-Some.at (sym c.start_of.ensures ∙ c.in-Some.is) in
+    (simp (length-take, length-drop) (omega (arith, room)), f.small, omega (arith, f.bounds.squares, f.bounds.n))
 
-pub returns : goal.returns
+pub returns-then-fit-total : goal.returns-then-fit-total
 unfolding with_part
-returns c =
-    let fit-was : tally_fit c.args.t ≡ true = sym c.fit.ensures ∙ c.if-not-fit.false in
-    let e : eqb (add_up (counts_of c.args.c)) c.args.t.n ≡ true = eq-eqb _ _ (sym c.total.ensures ∙ c.if-total-t.false) in
-    let s = c.args in
-    let at = s.code * 34 in
-    rw (
-      le-leb _ _ c.if-code-gt-LAST_CODE.false,
-      eq-eqb _ _ c.if-tallies-ne-LENGTH.false,
-      held_was s.t s.c fit-was e,
-      Post-is at (at + 34) s.tallies.now (omega arith),
-      c.put.ensures,
-    )
+returns-then-fit-total c =
+    let a = c.args in
+    let at = c.in-Some.at in
+    let e = sym c.start_of.ensures ∙ c.in-Some.is in
+    let fit : part_fit (held a.t a.c) ≡ true = sym (held-fit a.t a.c c.fit.result c.total.result c.fit.ensures c.total.ensures) ∙ c.if-fit-total.true in
+    rw (starts-there a.tallies.now a.code at e, fit, Post-is at (at + 34) a.tallies.now (omega arith), c.put.ensures, start_is a.tallies.now a.code at e)
+
+pub returns-else-fit-total : goal.returns-else-fit-total
+returns-else-fit-total c =
+    let a = c.args in
+    let e = sym c.start_of.ensures ∙ c.in-Some.is in
+    let unfit : part_fit (held a.t a.c) ≡ false = sym (held-fit a.t a.c c.fit.result c.total.result c.fit.ensures c.total.ensures) ∙ c.if-fit-total.false in
+    rw (starts-there a.tallies.now a.code c.in-Some.at e, unfit)

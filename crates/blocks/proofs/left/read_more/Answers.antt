@@ -1,19 +1,20 @@
 -- `read_more` reads more behind the bytes that are held; at the end it puts the LF. Assumes nothing.
 use borrow.Author.Rules.{rules}
+use mathlib.Core.Path.{sym, ◌∙◌}
 use Rattle.blocks.proofs.Fills.{fills_more, fills-none, fills-end}
 use Rattle.blocks.proofs.left.read_more.Goals as goal
 
-pub returns-then-read-eq-MORE-clause-filled : goal.returns-then-read-eq-MORE-clause-filled
-returns-then-read-eq-MORE-clause-filled g c =
+pub returns-then-not-is_last-clause-filled : goal.returns-then-not-is_last-clause-filled
+returns-then-not-is_last-clause-filled g c =
     let r = c.read_behind-read in
-    fills_more c.args.input.now r.new.input c.args.held r.result r.ensures.behind c.if-read-eq-MORE.true
+    fills_more c.args.input.now r.new.input c.args.held r.result r.ensures.behind (sym c.is_last.ensures ∙ c.if-not-is_last.true)
 
 pub returns-then-held-eq0-clause-filled : goal.returns-then-held-eq0-clause-filled
 returns-then-held-eq0-clause-filled g c =
     let r = c.read_behind-read in
-    fills-none c.args.input.now r.new.input c.args.held r.result r.ensures.behind c.if-read-eq-MORE.false (search rules)
+    fills-none c.args.input.now r.new.input c.args.held r.result r.ensures.behind (sym c.is_last.ensures ∙ c.if-not-is_last.false) (search rules)
 
 pub returns-clause-filled : goal.returns-clause-filled
 returns-clause-filled g c =
     let r = c.read_behind-read in
-    fills-end c.args.input.now r.new.input c.args.held r.result r.ensures.behind c.if-read-eq-MORE.false (search rules) c.requires (search rules)
+    fills-end c.args.input.now r.new.input c.args.held r.result r.ensures.behind (sym c.is_last.ensures ∙ c.if-not-is_last.false) (search rules) c.requires (search rules)

@@ -1,7 +1,9 @@
 -- `line_end` goes on to the first LF, or to the end. Assumes nothing.
 use borrow.Author.Rules.{rules}
 use native.Mathlib.Omega.{arith}
-use mathlib.Core.Path.{sym, ◌∙◌}
+use mathlib.Core.Path.{◌≡◌, sym, ap, ◌∙◌}
+use lib.ListN.{length}
+use Rattle.blocks.specs.Lines.{end_from}
 use borrow.Author.Tests.{eq-eqb, ne_eqb}
 use Rattle.blocks.proofs.Ends.{goes_on, ends-here, ends_last}
 use Rattle.blocks.proofs.lines.line_end.Goals as goal
@@ -24,4 +26,6 @@ loop-i-preserved c =
 pub returns : goal.returns
 returns c =
     let l = c.loop-i in
-    sym (ends_last c.args.input.now l.i (search rules)) ∙ l.invariant.1
+    let n = length c.args.input.now in
+    let all : l.i ≡ n = search rules in
+    sym (ends_last c.args.input.now n (omega arith)) ∙ ap (end_from c.args.input.now) (sym all) ∙ l.invariant.1

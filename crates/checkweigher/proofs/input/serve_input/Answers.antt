@@ -11,9 +11,9 @@ use Rattle.checkweigher.specs.Traces.{GoesOn, Gives}
 use Rattle.checkweigher.proofs.Traced.{traced_fresh, traced_begun, turn-cut, turn-ends, turn-goes}
 use Rattle.checkweigher.proofs.input.serve_input.Goals as goal
 
-pub loop-turns-init : goal.loop-turns-init
+pub loop-init : goal.loop-init
 unfolding zeros
-loop-turns-init g c =
+loop-init g c =
     rw c.none-left.ensures (
       c.large_buffer-input.ensures,
       c.large_buffer-out.ensures,
@@ -22,7 +22,7 @@ loop-turns-init g c =
       omega arith,
       omega arith,
       rw (c.fresh-line.ensures, c.blank-settings.ensures) (traced_fresh _),
-      λ e. absurd (omega (arith, e)),
+      λ e. cc,
     )
 
 last-served : (a b : Bool) → not a && b ≡ true → (a ≡ false) × (b ≡ true)
@@ -31,16 +31,16 @@ last-served true b h = never h
 
 pub returns-then-not-all : goal.returns-then-not-all
 returns-then-not-all g c =
-    let l = c.loop-turns in
+    let l = c.loop in
     let b = c.serve_block-block in
     let w = c.write_out-taken in
     let n = l.invariant.0 in
-    turn-cut _ _ l.input b.new.out l.left (state l.line l.settings l.tallies) (state b.result.line b.result.settings b.new.tallies) l.turns b.result.start b.result.at
+    turn-cut _ _ l.input b.new.out l.left (state l.line l.settings l.tallies) (state b.result.line b.result.settings b.new.tallies) l.counter b.result.start b.result.at
     l.invariant.3 (omega (arith, n, l.invariant.4)) l.invariant.6 b.ensures w.result w.ensures.taken (sym c.all.ensures ∙ c.if-not-all.true) _ w.ensures.written
 
 pub returns-then-full-is_last : goal.returns-then-full-is_last
 returns-then-full-is_last g c =
-    let l = c.loop-turns in
+    let l = c.loop in
     let b = c.serve_block-block in
     let w = c.write_out-taken in
     let n = l.invariant.0 in
@@ -48,22 +48,22 @@ returns-then-full-is_last g c =
     let last = sym c.is_last.ensures ∙ served.1 in (
       last,
       l.invariant.7,
-      turn-ends _ _ l.input b.new.out l.left (state l.line l.settings l.tallies) (state b.result.line b.result.settings b.new.tallies) l.turns b.result.start b.result.at
+      turn-ends _ _ l.input b.new.out l.left (state l.line l.settings l.tallies) (state b.result.line b.result.settings b.new.tallies) l.counter b.result.start b.result.at
           l.invariant.3 (omega (arith, n, l.invariant.4)) l.invariant.6 b.ensures w.result w.ensures.taken (sym c.all.ensures ∙ c.if-not-all.false) _ w.ensures.written
           (sym c.is_full-full.ensures ∙ served.0) last,
     )
 
-pub loop-turns-preserved : goal.loop-turns-preserved
-loop-turns-preserved g c =
-    let l = c.loop-turns in
+pub loop-preserved : goal.loop-preserved
+loop-preserved g c =
+    let l = c.loop in
     let b = c.serve_block-block in
     let w = c.write_out-taken in
     let full = c.is_full-full in
     let go = c.go_on-left in
     let n = l.invariant.0 in
-    let t = c.loop-turns-test.true in
+    let t = c.loop-test.true in
     let on =
-    turn-goes _ _ l.input b.new.out l.left (state l.line l.settings l.tallies) (state b.result.line b.result.settings b.new.tallies) l.turns b.result.start b.result.at
+    turn-goes _ _ l.input b.new.out l.left (state l.line l.settings l.tallies) (state b.result.line b.result.settings b.new.tallies) l.counter b.result.start b.result.at
     l.invariant.3 (omega (arith, n, l.invariant.4)) l.invariant.6 b.ensures w.result w.ensures.taken (sym c.all.ensures ∙ c.if-not-all.false) _ w.ensures.written
     full.result full.ensures (ap (λ (x : Bool). not full.result && x) (sym c.is_last.ensures) ∙ c.if-full-is_last.false) (omega (arith, n)) go.result go.new.input
     (subst (λ (x : Left). GoesOn full.result x l.input go.result go.new.input) c.past.ensures go.ensures.goes_on) (g.R.Read.remaining go.new.reader)
@@ -73,6 +73,5 @@ loop-turns-preserved g c =
 
 pub returns : goal.returns
 returns g c =
-    let l = c.loop-turns in
-    let t = c.loop-turns-test.false in
-    (omega (arith, t, l.invariant.5), traced_begun _ _ (state l.line l.settings l.tallies) (bytes_left l.left l.input) (last_of l.left) l.turns l.invariant.6)
+    let l = c.loop in
+    (refl, traced_begun _ _ (state l.line l.settings l.tallies) (bytes_left l.left l.input) (last_of l.left) l.counter l.invariant.6 (omega (arith, c.loop-test.false, l.invariant.5)))

@@ -1,7 +1,7 @@
 -- What the loop keeps.
 use mathlib.Core.List.{map}
 use mathlib.Core.Path.{◌≡◌}
-use Prim.Native.Nat.{◌-◌, ◌≤◌}
+use Prim.Native.Nat.{◌≤◌}
 use lib.ListN.{length, take}
 use Rattle.lists.specs.Places.{in_places}
 use Rattle.time.specs.Time.{fallen}
@@ -9,7 +9,4 @@ use Rattle.queue.specs.Queue.{places}
 use Rattle.detector.proofs.Foreign.delays_fallen.Given as goal
 
 abbrev pub invariant-loop-i : goal.invariant-loop-i
-invariant-loop-i l = (length l.delays ≡ places) × (l.n ≤ places) × (l.i ≤ l.n) × (l.left ≡ in_places places 0 (map fallen (take l.i l.delays)))
-
-abbrev pub decreases-loop-i : goal.decreases-loop-i
-decreases-loop-i l = l.n - l.i
+invariant-loop-i l = (length l.delays ≤ places) × (l.left ≡ in_places places 0 (map fallen (take l.i l.delays)))

@@ -1,15 +1,15 @@
 -- `exact` reads digit by digit: the number is at least what its first digits are. Assumes nothing.
 use borrow.Author.Rules.{rules}
-use mathlib.Core.Path.{◌≡◌, refl}
+use mathlib.Core.Path.{◌≡◌, refl, ◌∙◌}
 use mathlib.Core.List.{List, []}
-use Prim.Native.Nat.{ℕ, ◌+◌, ◌-◌, ◌*◌, ◌/◌, ◌≤◌, ◌<◌}
+use Prim.Native.Nat.{ℕ, ◌+◌, ◌-◌, ◌*◌, ◌<◌}
 use native.Mathlib.Omega.{arith}
 use lib.IntN.{pos}
 use lib.ListN.{length, get_or, drop}
 use borrow.Author.Tests.{le-leb, lt-leb}
+use Rattle.std.specs.Prelude.{None}
 use Rattle.exitlog.specs.Entry.{largest, tick_of}
 use Rattle.exitlog.specs.Views.{PlainNumber}
-use Rattle.exitlog.specs.declared.entry.Tick.TheVariants.{TooWide}
 use Rattle.exitlog.proofs.Numbers.{number_digits, digits-least, Digit, digit_at, last-digit}
 use Rattle.exitlog.proofs.entry.exact.Invariants.{Reads}
 use Rattle.exitlog.proofs.entry.exact.Goals as goal
@@ -22,46 +22,41 @@ module _ (line : List ℕ) (at size i : ℕ) (r : Reads line at size i) (h : i <
   digit p = digit_at line i size (pos p.n) h (r p)
 
   -- with this digit it is beyond 64 bits, and so it stays
-  beyond : (d : ℕ) → d ≡ get_or line i 0 - 48 → largest < size * 10 + d → (p : PlainNumber (drop at line)) → TooWide ≡ tick_of (pos p.n)
-  beyond d e g p =
+  beyond : largest < size * 10 + (get_or line i 0 - 48) → (p : PlainNumber (drop at line)) → None ≡ tick_of (pos p.n)
+  beyond g p =
       let least = digits-least (size * 10 + (get_or line i 0 - 48)) (drop (i + 1) line) p.n [] (digit p).next in
-      rw (lt-leb p.n largest (omega (arith, e, g, least))) refl
+      rw (lt-leb p.n largest (omega (arith, g, least))) refl
 
-  further : (d : ℕ) → d ≡ get_or line i 0 - 48 → Reads line at (size * 10 + d) (i + 1)
-  further d e p = rw e (digit p).next
+  further : (n : ℕ) → n ≡ size * 10 + (get_or line i 0 - 48) → Reads line at n (i + 1)
+  further n e p = rw e (digit p).next
 
 pub overflow_sub-line : goal.overflow_sub-line
 overflow_sub-line c = let l = c.loop-i in (digit c.args.line.now c.args.at l.size l.i l.invariant.1 (search rules) c.requires).least
 
-pub overflow_sub-digit : goal.overflow_sub-digit
-overflow_sub-digit c =
-    let l = c.loop-i in
-    let most = (digit c.args.line.now c.args.at l.size l.i l.invariant.1 (search rules) c.requires).most in
-    let e = c.wide-digit.ensures in
-    omega (arith, most, e)
-
-pub returns-then-digit-size : goal.returns-then-digit-size
-returns-then-digit-size c =
+pub returns-in_err-checked_mul : goal.returns-in_err-checked_mul
+returns-in_err-checked_mul c =
     let l = c.loop-i in
     let a = c.args in
-    let over = c.if-digit-size.true in
-    beyond a.line.now a.at l.size l.i l.invariant.1 (search rules) c.wide-digit.result c.wide-digit.ensures (omega (arith, over))
+    let over = c.in_err-checked_mul.ensures in
+    λ p. c.from_residual.ensures ∙ beyond a.line.now a.at l.size l.i l.invariant.1 (search rules) (omega (arith, over)) p
 
--- the number so far is held
-held : (size digit : ℕ) → digit ≤ largest → size ≤ (largest - digit) / 10 → size * 10 + digit ≤ largest
-held size digit d h = omega (arith, d, h)
-
-pub overflow_mul-size : goal.overflow_mul-size
-overflow_mul-size c = let h = held c.loop-i.size c.wide-digit.result (omega arith) c.if-digit-size.false in record { fits = omega (arith, h) }
-
-pub overflow_add-size : goal.overflow_add-size
-overflow_add-size c = let h = held c.loop-i.size c.wide-digit.result (omega arith) c.if-digit-size.false in record { fits = omega (arith, h) }
+pub returns-in_err-size : goal.returns-in_err-size
+returns-in_err-size c =
+    let l = c.loop-i in
+    let a = c.args in
+    let d = c.from-digit.ensures in
+    let ten = c.in_ok-checked_mul.ensures in
+    let over = c.in_err-size.ensures in
+    λ p. c.from_residual-in_err-size.ensures ∙ beyond a.line.now a.at l.size l.i l.invariant.1 (search rules) (omega (arith, d, ten.1, over)) p
 
 pub loop-i-preserved : goal.loop-i-preserved
 loop-i-preserved c =
     let l = c.loop-i in
     let a = c.args in
-    (held l.size c.wide-digit.result (omega arith) c.if-digit-size.false, further a.line.now a.at l.size l.i l.invariant.1 (search rules) c.wide-digit.result c.wide-digit.ensures)
+    let d = c.from-digit.ensures in
+    let ten = c.in_ok-checked_mul.ensures in
+    let sum = c.in_ok-size.ensures in
+    (omega arith, further a.line.now a.at l.size l.i l.invariant.1 (search rules) _ (omega (arith, d, ten.1, sum.1)))
 
 pub returns : goal.returns
 returns c =

@@ -2,9 +2,9 @@
 use mathlib.Core.Path.{◌≡◌}
 use mathlib.Core.Bool.{false}
 use mathlib.Core.List.{List, []}
-use Prim.Native.Nat.{ℕ, ◌-◌, ◌≤◌}
+use Prim.Native.Nat.{ℕ, ◌≤◌}
 use lib.IntN.{pos}
-use lib.ListN.{length, drop}
+use lib.ListN.{drop}
 use Rattle.numeral.specs.Number.{some, digits}
 use Rattle.exitlog.specs.Entry.{largest}
 use Rattle.exitlog.specs.Views.{PlainNumber}
@@ -16,6 +16,3 @@ Reads line at size i = (p : PlainNumber (drop at line)) → digits false size (d
 
 abbrev pub invariant-loop-i : goal.invariant-loop-i
 invariant-loop-i l = (l.size ≤ largest) × Reads l.line l.at l.size l.i
-
-abbrev pub decreases-loop-i : goal.decreases-loop-i
-decreases-loop-i l = length l.line - l.i

@@ -1,10 +1,6 @@
 -- What the loop keeps.
-use Prim.Native.Nat.{◌-◌}
 use Rattle.exitlog.proofs.Writing.{Going}
 use Rattle.exitlog.proofs.lines.put_pairs.Given as goal
 
 abbrev pub invariant-loop-i : goal.invariant-loop-i
 invariant-loop-i l = Going l.initial.out l.pairs l.n l.out l.at l.i
-
-abbrev pub decreases-loop-i : goal.decreases-loop-i
-decreases-loop-i l = l.n - l.i

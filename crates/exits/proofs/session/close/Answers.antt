@@ -12,7 +12,7 @@ pub returns-then-not-call : goal.returns-then-not-call
 returns-then-not-call c = rw (not-true c.args.call.begun c.if-not-call.true) (omega arith, refl)
 
 pub returns-then-call : goal.returns-then-call
-returns-then-call c = rw (not-false c.args.call.begun c.if-not-call.false, c.if-call.true) c.refuse.ensures
+returns-then-call c = rw (not-false c.args.call.begun c.if-not-call.false, c.if-call.true) (rw c.number.ensures at c.refuse.ensures (let room = c.requires.2 in omega (arith, room)))
 
 pub returns : goal.returns
 returns c =

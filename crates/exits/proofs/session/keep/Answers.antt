@@ -12,25 +12,22 @@ returns-in-Begin c =
 pub returns-in-Verdict : goal.returns-in-Verdict
 returns-in-Verdict c =
     let n = c.note-n in
+    let h = c.requires in
+    let p = h.verdicts in
+    let e = h.verdict-places in
     rw (c.with_counts.ensures, c.in-Verdict.is)
-    (verdict-joins c.args.call c.args.verdicts.now c.args.signals.now c.requires _ n.result n.new.list n.ensures)
+    (verdict-joins c.args.call c.args.verdicts.now c.args.signals.now c.requires _ n.result n.new.list (n.ensures (omega (arith, p, e))))
 
 pub returns-in-Signal : goal.returns-in-Signal
 returns-in-Signal c =
     let n = c.note-n-in-Signal in
+    let h = c.requires in
+    let p = h.signals in
+    let e = h.signal-places in
     rw (c.with_counts-in-Signal.ensures, c.in-Signal.is)
-    (signal-joins c.args.call c.args.verdicts.now c.args.signals.now c.requires _ n.result n.new.list n.ensures)
+    (signal-joins c.args.call c.args.verdicts.now c.args.signals.now c.requires _ n.result n.new.list (n.ensures (omega (arith, p, e))))
 
 pub returns-in-TooWide : goal.returns-in-TooWide
 returns-in-TooWide c =
     let h = c.requires in
     rw (c.too_wide.ensures, c.in-TooWide.is) (refl, record { verdict-places = h.verdict-places; signal-places = h.signal-places; verdicts = h.verdicts; signals = h.signals })
-
-pub returns-in-Other : goal.returns-in-Other
-returns-in-Other c = rw c.in-Other.is (refl, c.requires)
-
-pub note-n-requires : goal.note-n-requires
-note-n-requires c = let h = c.requires in let p = h.verdicts in let e = h.verdict-places in omega (arith, p, e)
-
-pub note-n-requires-in-Signal : goal.note-n-requires-in-Signal
-note-n-requires-in-Signal c = let h = c.requires in let p = h.signals in let e = h.signal-places in omega (arith, p, e)

@@ -1,19 +1,23 @@
 -- `serve_line`: what a line says, prints and leaves. Assumes nothing.
-use mathlib.Core.Path.{◌≡◌, ap, subst, ◌∙◌}
-use lib.ListN.{take}
+use mathlib.Core.Path.{◌≡◌, refl, sym, ap, ◌∙◌}
+use native.Mathlib.Omega.{arith}
+use Rattle.std.specs.Prelude.{None, Some}
 use Rattle.exitlog.specs.Entry.{read_entry}
-use Rattle.exitlog.specs.declared.entry.Entry.{Entry}
-use Rattle.exits.specs.Session.{placed, after, Says, state_of}
+use Rattle.exits.specs.Session.{placed}
 use Rattle.exits.proofs.session.serve_line.Goals as goal
+
+pub returns-in_default : goal.returns-in_default
+returns-in_default c =
+    let a = c.args in
+    let room = c.requires.2 in
+    let said = c.refuse-at.ensures (omega (arith, room)) in
+    let is : placed a.call.begun (read_entry a.line.now) ≡ None = ap (placed a.call.begun) (sym c.read_entry.ensures) ∙ sym c.in_place.ensures ∙ c.in_default.is in
+    rw is (record { holds = (c.requires.0, said.0); signals_after = refl; says = rw c.number.ensures at said.1 })
 
 pub returns : goal.returns
 returns c =
     let a = c.args in
-    let before = state_of a.call a.verdicts.now a.signals.now in
-    let place = c.in_place-e in
     let said = c.answer-at in
     let kept = c.keep-next in
-    let is : place.result ≡ placed a.call.begun (read_entry a.line.now) = place.ensures ∙ ap (placed a.call.begun) c.read_entry.ensures in
-    let says : Says before (placed a.call.begun (read_entry a.line.now)) (take said.result said.new.out) =
-    subst (λ (e : Entry). Says before e (take said.result said.new.out)) is said.ensures.1 in
-    record { holds = (kept.ensures.1, said.ensures.0); signals_after = kept.ensures.0 ∙ ap (after before) is; says = says }
+    let is : placed a.call.begun (read_entry a.line.now) ≡ Some c.in-Some.e = ap (placed a.call.begun) (sym c.read_entry.ensures) ∙ sym c.in_place.ensures ∙ c.in-Some.is in
+    rw is (record { holds = (kept.ensures.1, said.ensures.0); signals_after = kept.ensures.0; says = said.ensures.1 })

@@ -11,8 +11,7 @@ use mir.Facts.{to_z-of_z}
 use Rattle.laws.proofs.Signed.{abs_add, sfits_abs, add_fits, add_back}
 use Rattle.weight.specs.Mean.{rounded, mean_of}
 use Rattle.weight.specs.Weight.{is_weight}
-use Rattle.weight.specs.declared.Figure.{Figure}
-use Rattle.weight.specs.declared.Figure.TheVariants.{Of}
+use Rattle.std.specs.Prelude.{Option, Some}
 use Rattle.event.specs.declared.Setup.{Setup}
 use Rattle.weight.proofs.Nearest.{rounded_le}
 use Rattle.item.proofs.Keeps.{averages}
@@ -44,9 +43,9 @@ sum_of {k = k} {sum = sum} {gross = gross} s e h g =
     }
 
 -- on the last tick the mean is had
-mean_is : {f : Figure} {sum gross : ℤ} {ta : ℕ} → Sum sum gross ta
+mean_is : {f : Option ℤ} {sum gross : ℤ} {ta : ℕ} → Sum sum gross ta
     → f ≡ mean_of (to_z w64 (of_z w64 (to_z w64 (of_z w64 sum) +ℤ to_z w64 (of_z w64 gross)))) ta
-    → f ≡ Of (rounded (sum +ℤ gross) ta)
+    → f ≡ Some (rounded (sum +ℤ gross) ta)
 mean_is {ta = ta} p e = rw p.is at e ∙ simp (ne_eqb ta 0 (λ z. omega (arith, p.some, z)))
 
 pub overflow_add-total : goal.overflow_add-total
@@ -58,14 +57,14 @@ returns-then-k-gt1-2 c =
     let p = sum_of c.args.setup c.in-Averaging.is c.requires c.ranges.gross in
     rw p.is (simp (c.in-Averaging.is, lt-ltb _ _ c.if-k-gt1-2.true))
 
-pub returns-in-Of : goal.returns-in-Of
+pub returns-in-Some : goal.returns-in-Some
 unfolding ticked
-returns-in-Of c =
+returns-in-Some c =
     let p = sum_of c.args.setup c.in-Averaging.is c.requires c.ranges.gross in
-    let v : c.in-Of.m ≡ rounded (c.in-Averaging.sum +ℤ c.args.gross) c.args.setup.ta = cc (sym c.in-Of.is ∙ mean_is p c.mean_of-mean.ensures) in
+    let v : c.in-Some.mean ≡ rounded (c.in-Averaging.sum +ℤ c.args.gross) c.args.setup.ta = cc (sym c.in-Some.is ∙ mean_is p c.mean_of.ensures) in
     rw (v, to_z-of_z p.mean_fits) (simp (c.in-Averaging.is, le-ltb _ _ c.if-k-gt1-2.false))
 
-pub returns-in-None-mean : goal.returns-in-None-mean
-returns-in-None-mean c =
-    let e = mean_is (sum_of c.args.setup c.in-Averaging.is c.requires c.ranges.gross) c.mean_of-mean.ensures in
-    let z : ◌≡◌ {A = ℕ} 0 1 = cc (sym c.in-None-mean.is ∙ e) in absurd (omega arith)
+pub returns-in-None-mean_of : goal.returns-in-None-mean_of
+returns-in-None-mean_of c =
+    let e = mean_is (sum_of c.args.setup c.in-Averaging.is c.requires c.ranges.gross) c.mean_of.ensures in
+    let z : ◌≡◌ {A = ℕ} 0 1 = cc (sym c.in-None-mean_of.is ∙ e) in absurd (omega arith)

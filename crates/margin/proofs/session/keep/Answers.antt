@@ -8,9 +8,6 @@ use Rattle.laws.proofs.Signed.{back}
 use Rattle.margin.proofs.Calls.{sample-joins}
 use Rattle.margin.proofs.session.keep.Goals as goal
 
-pub note-n-requires : goal.note-n-requires
-note-n-requires c = let h = c.requires in let p = h.within in let e = h.all-places in omega (arith, p, e)
-
 pub returns-in-Begin : goal.returns-in-Begin
 returns-in-Begin c =
     let h = c.requires in
@@ -25,8 +22,8 @@ pub returns-in-Gross : goal.returns-in-Gross
 returns-in-Gross c =
     let n = c.note-n in
     let fits : mag c.in-Gross.x < 2 ^ 63 = search rules in
-    let joins = rw (back c.in-Gross.x fits) at n.ensures in
-    rw (c.with_count.ensures, c.in-Gross.is) (sample-joins c.args.call c.args.samples.now c.requires c.in-Gross.x n.result n.new.samples joins)
-
-pub returns-in-Other : goal.returns-in-Other
-returns-in-Other c = rw c.in-Other.is (refl, c.requires)
+    let h = c.requires in
+    let p = h.within in
+    let e = h.all-places in
+    let joins = rw (back c.in-Gross.x fits) at (n.ensures (omega (arith, p, e))) in
+    rw (c.with_count.ensures, c.in-Gross.is) (sample-joins c.args.call c.args.samples.now c.requires c.in-Gross.x n.result n.new.list joins)

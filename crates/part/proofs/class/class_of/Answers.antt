@@ -36,14 +36,8 @@ returns-then-above-lt0 c =
     let is = above-is c.args.net c.args.target c.ranges.net c.ranges.target c.requires.0 c.requires.1 in
     (simp (rw is at c.if-above-lt0.true), omega arith)
 
-pub returns-then-k-gt20 : goal.returns-then-k-gt20
-unfolding class_of
-returns-then-k-gt20 c =
-    let is = above-is c.args.net c.args.target c.ranges.net c.ranges.target c.requires.0 c.requires.1 in
-    (simp (rw is at c.if-above-lt0.false) (omega (arith, rw is at c.size-k.ensures)), omega arith)
-
 pub returns : goal.returns
 unfolding class_of
 returns c =
     let is = above-is c.args.net c.args.target c.ranges.net c.ranges.target c.requires.0 c.requires.1 in
-    (simp (rw is at c.if-above-lt0.false) (omega (arith, rw is at c.size-k.ensures)), omega arith)
+    (simp (rw is at c.if-above-lt0.false) (omega (arith, rw is at c.size.ensures, c.min.ensures)), omega (arith, c.min.ensures))

@@ -3,7 +3,7 @@ use native.Mathlib.Omega.{arith}
 use Rattle.decimal.specs.Bytes.{bytes}
 use Rattle.print.specs.Text.{line_end}
 use Rattle.print.specs.Reply.{shown, did, done_text}
-use Rattle.print.proofs.Put.{wrote_then, wrote_in, wrote_as}
+use Rattle.print.proofs.Writes.{writes_then, writes_in, writes_as}
 use Rattle.print.proofs.Parts.{two-parts}
 use Rattle.print.proofs.reply.put_done.Goals as goal
 
@@ -11,5 +11,5 @@ pub returns : goal.returns
 unfolding done_text
 returns c =
     let d = c.args.d in
-    let w = wrote_then c.put_shown-next.ensures (wrote_then c.put_did-end.ensures c.put.ensures) in
-    wrote_in (omega arith) (wrote_as (two-parts (bytes " ") (shown d) (did d) line_end (omega arith)) w)
+    let w = writes_then c.put_shown.ensures (writes_then c.put_did.ensures c.end_line.ensures) in
+    writes_in (omega arith) (writes_as (two-parts (bytes " ") (shown d) (did d) line_end (omega arith)) w)

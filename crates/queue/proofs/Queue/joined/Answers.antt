@@ -1,57 +1,58 @@
--- `joined`: the waits before place i are copied, then the new one is put behind them. Assumes nothing.
-use borrow.Author.Rules.{rules}
-use borrow.Author.Tests.{leb-true, le-leb, lt-leb}
-use mathlib.Core.Bool.{true, false, or-true}
-use mathlib.Core.List.{[], ◌∷◌, ◌++◌}
+-- `joined`: the waits are copied, then the new one is put behind them. Assumes nothing.
+use borrow.Author.Tests.{not-false}
+use mathlib.Core.Bool.{Bool, true, false, ◌||◌, not}
+use mathlib.Core.List.{List, [], ◌∷◌, ◌++◌}
 use mathlib.Core.Path.{◌≡◌, refl, sym, ◌∙◌}
-use Prim.Native.Nat.{◌+◌}
+use Prim.Native.Nat.{ℕ, ◌+◌, ◌<◌}
 use native.Mathlib.Omega.{arith}
-use lib.ListN.{length, take, length-append}
+use lib.ListN.{length, set, take, drop, replicate, length-append}
 use lib.Seq.{length-take-le}
-use Rattle.lists.proofs.Places.{put_last, copy_next}
-use Rattle.time.specs.Time.{longest, is_time}
+use Rattle.std.proofs.lemmas.List.{drop-replicate}
+use Rattle.laws.proofs.Tests.{neither}
+use Rattle.lists.proofs.Places.{put_last}
+use Rattle.time.specs.Time.{is_time}
 use Rattle.queue.specs.Queue.{places, waits_of, laid, is_full, joined}
-use Rattle.queue.proofs.Waits.{full_is}
+use Rattle.queue.specs.declared.Queue.{Queue}
+use Rattle.queue.proofs.Waits.{one_fits}
 use Rattle.queue.proofs.Queue.joined.Goals as goal
 
-pub returns-then-self-ge-PLACES : goal.returns-then-self-ge-PLACES
+pub returns-then-is_full-is_time : goal.returns-then-is_full-is_time
 unfolding joined
-returns-then-self-ge-PLACES c =
-    let q = c.args.self in
-    let e : is_full q ≡ true = sym (full_is q (search rules)) ∙ le-leb places q.n c.if-self-ge-PLACES.true in
-    rw e
+returns-then-is_full-is_time c =
+    let no : is_full c.args.self || not (is_time c.args.ts) ≡ true = rw (c.is_full.ensures, c.is_time.ensures) at c.if-is_full-is_time.true in
+    rw no
 
--- what is no time is not taken
-pub returns-then-not-is_time : goal.returns-then-not-is_time
-unfolding joined
-returns-then-not-is_time c =
-    let no : is_time c.args.ts ≡ false = sym c.is_time.ensures ∙ c.if-not-is_time.true in
-    rw (no, or-true) refl
+-- what is taken has its room
+room : (q : Queue) (w : List ℕ) (full other : Bool) → w ≡ waits_of q → full ≡ is_full q → full || other ≡ false → length w < places
+room q w full other t e h = rw t (one_fits q (sym e ∙ (neither full other h).0))
 
-pub loop-i-init : goal.loop-i-init
-loop-i-init c = (search rules, omega arith, omega arith, refl)
+pub slice_bounds-all-end : goal.slice_bounds-all-end
+slice_bounds-all-end c = omega (arith, room c.args.self c.taken-waits.result.now _ _ c.taken-waits.ensures c.is_full.ensures c.if-is_full-is_time.false)
 
-pub loop-i-preserved : goal.loop-i-preserved
-loop-i-preserved c =
-    let l = c.loop-i in
-    let w = c.args.self.waits in
-    (l.invariant.0, l.invariant.1, omega arith, rw l.invariant.3 (copy_next places 0 w l.i (omega arith) (omega arith)))
+front : (n : ℕ) → n < places → n ≡ length (take n (replicate {A = ℕ} places 0))
+front n h = sym (length-take-le n (replicate {A = ℕ} places 0) (omega arith))
 
-pub overflow_cast-all : goal.overflow_cast-all
-overflow_cast-all c =
-    let a = c.args in
-    let time : is_time a.ts ≡ true = sym c.is_time.ensures ∙ c.if-not-is_time.false in
-    record { fits = omega (arith, leb-true a.ts longest time) }
+pub slice_bounds-copy_from_slice-end : goal.slice_bounds-copy_from_slice-end
+slice_bounds-copy_from_slice-end c = front _ (room c.args.self c.taken-waits.result.now _ _ c.taken-waits.ensures c.is_full.ensures c.if-is_full-is_time.false)
+
+pub copy_from_slice-requires : goal.copy_from_slice-requires
+copy_from_slice-requires c = sym (front _ (room c.args.self c.taken-waits.result.now _ _ c.taken-waits.ensures c.is_full.ensures c.if-is_full-is_time.false))
+
+pub bounds-all-n : goal.bounds-all-n
+bounds-all-n c = room c.args.self c.taken-waits.result.now _ _ c.taken-waits.ensures c.is_full.ensures c.if-is_full-is_time.false
+
+-- the waits laid, with one put behind them
+one_more : (q : Queue) (w : List ℕ) (ts : ℕ) → w ≡ waits_of q → is_full q ≡ false → is_time ts ≡ true
+    → ◌≡◌ {A = Queue} (record { waits = set (w ++ drop (length w) (replicate places 0)) (length w) ts; n = length w + 1 }) (joined q ts)
+unfolding joined laid
+one_more q w ts e f t =
+    let more : length w + 1 ≡ length (w ++ ts ∷ []) = omega (arith, length-append w (ts ∷ [])) in
+    let few : length w < places = rw e (one_fits q f) in
+    rw (f, t, drop-replicate {X = ℕ} (length w) places 0, ← e, put_last places 0 w (length w) ts refl few, more)
 
 pub returns : goal.returns
-unfolding joined laid waits_of
 returns c =
-    let l = c.loop-i in
     let a = c.args in
-    let q = a.self in
-    let time : is_time a.ts ≡ true = sym c.is_time.ensures ∙ c.if-not-is_time.false in
-    let n : q.n ≡ length (take q.n q.waits) = sym (length-take-le q.n q.waits (omega arith)) in
-    let more : q.n + 1 ≡ length (take q.n q.waits ++ a.ts ∷ []) = omega (arith, length-append (take q.n q.waits) (a.ts ∷ [])) in
-    let e : is_full q ≡ false = sym (full_is q (search rules)) ∙ lt-leb places q.n (omega arith) in
-    let i : l.i ≡ q.n = omega arith in
-    rw (e, time, l.invariant.3, i, more, put_last places 0 (take q.n q.waits) q.n a.ts n (omega arith))
+    let e = neither c.is_full.result _ c.if-is_full-is_time.false in
+    let time : is_time a.ts ≡ true = sym c.is_time.ensures ∙ not-false _ e.1 in
+    rw c.copy_from_slice.ensures.after (one_more a.self c.taken-waits.result.now a.ts c.taken-waits.ensures (sym c.is_full.ensures ∙ e.0) time)

@@ -1,57 +1,48 @@
--- `ticked`: the waits before place i have fallen, and those left stand packed. Assumes nothing.
+-- `ticked`: the waits before this one have fallen, and those left stand packed. Assumes nothing.
 use borrow.Author.Rules.{rules}
-use borrow.Author.Tests.{eq-eqb, ne_eqb, ltb-true, ltb-false}
+use borrow.Author.Tests.{eq-eqb, ne_eqb}
 use mathlib.Core.Bool.{true, false}
 use mathlib.Core.Path.{◌≡◌, sym, ◌∙◌}
 use native.Mathlib.Omega.{arith}
-use mathlib.Core.List.{List}
-use Prim.Native.Nat.{ℕ, ◌+◌, ◌-◌, ◌<◌, ◌≤◌}
-use lib.ListN.{length, get_or, set}
-use lib.Dec.{ltb}
-use Rattle.laws.proofs.Tests.{by_cases}
-use Rattle.lists.proofs.Places.{Packing, none-packed, packed-stays, packed-leaves}
+use lib.ListN.{get_or}
+use lib.Seq.{take_all}
+use Rattle.lists.proofs.Places.{none-packed, packed-stays, packed-leaves}
 use Rattle.time.specs.Time.{fallen, ended}
-use Rattle.queue.specs.Queue.{places, laid, waiting, is_empty, queue_ticked}
-use Rattle.queue.proofs.Waits.{waiting-is, empty-is, waits-counted}
+use Rattle.queue.specs.Queue.{places, laid, is_empty, queue_ticked}
+use Rattle.queue.proofs.Waits.{few_waits}
 use Rattle.queue.proofs.Queue.ticked.Goals as goal
+use Rattle.queue.proofs.Queue.ticked.Goals.{then-wait-gt-LAST_TICK, else-wait-gt-LAST_TICK}
 
-pub returns-then-self-eq0 : goal.returns-then-self-eq0
+pub returns-then-is_empty : goal.returns-then-is_empty
 unfolding queue_ticked
-returns-then-self-eq0 c =
-    let q = c.args.self in
-    let e : is_empty q ≡ true = sym (empty-is q (search rules)) ∙ eq-eqb q.n 0 c.if-self-eq0.true in
+returns-then-is_empty c =
+    let e : is_empty c.args.self ≡ true = sym c.is_empty.ensures ∙ c.if-is_empty.true in
     rw e
 
-pub loop-i-init : goal.loop-i-init
-loop-i-init c =
-    let q = c.args.self in
-    (search rules, omega (arith, c.waiting-n.ensures, waiting-is q (search rules)), omega arith, none-packed places 0 ended fallen q.waits)
+pub loop-wait-init : goal.loop-wait-init
+loop-wait-init c = (rw c.taken-wait-items.ensures (few_waits c.args.self (search rules)), none-packed places 0 ended fallen c.taken-wait-items.result.now)
 
 -- a wait above 1 falls and stays, any other leaves
-step :
-    (w : List ℕ) (i : ℕ) (left next : List ℕ) (k m : ℕ) → Packing places 0 ended fallen w i left k → i < length w → i < places
-    → (1 < get_or w i 0 → (next ≡ set left k (get_or w i 0 - 1)) × (m ≡ k + 1)) → (get_or w i 0 ≤ 1 → (next ≡ left) × (m ≡ k))
-    → Packing places 0 ended fallen w (i + 1) next m
-step w i left next k m h n t stays leaves =
-    let x = get_or w i 0 in
-    by_cases (ltb 1 x)
-    (λ b. let s = stays (ltb-true 1 x b) in rw (s.0, s.1) (packed-stays places 0 ended fallen w i left k h n t (ne_eqb (fallen x) 0 (λ e. omega (arith, ltb-true 1 x b)))))
-    (λ b. let s = leaves (ltb-false 1 x b) in rw (s.0, s.1) (packed-leaves places 0 ended fallen w i left k h n (eq-eqb (fallen x) 0 (omega (arith, ltb-false 1 x b)))))
-
-pub loop-i-preserved : goal.loop-i-preserved
-loop-i-preserved c =
-    let l = c.loop-i in (
-      l.invariant.0,
-      l.invariant.1,
-      omega arith,
-      step c.args.self.waits l.i l.left _ l.k _ l.invariant.3 (omega arith) (omega arith) (λ t. grind arith) (λ t. grind arith),
-    )
+pub loop-wait-preserved : goal.loop-wait-preserved
+loop-wait-preserved c =
+    let l = c.loop-wait in
+    let w = c.taken-wait-items.result.now in
+    let x = get_or w l.wait-index 0 in
+    elim c.if-wait-gt-LAST_TICK.branch [
+      | then-wait-gt-LAST_TICK t ↦ (
+        l.invariant.0,
+        rw (t.left-is, t.k-is) (packed-stays places 0 ended fallen w l.wait-index l.left l.k l.invariant.1 (omega arith) (omega arith) (ne_eqb (fallen x) 0 (λ e. omega (arith, t.if-wait-gt-LAST_TICK.true)))),
+      )
+      | else-wait-gt-LAST_TICK t ↦ (
+        l.invariant.0,
+        rw (t.left-is, t.k-is) (packed-leaves places 0 ended fallen w l.wait-index l.left l.k l.invariant.1 (omega arith) (eq-eqb (fallen x) 0 (omega (arith, t.if-wait-gt-LAST_TICK.false)))),
+      )
+    ]
 
 pub returns : goal.returns
 unfolding queue_ticked laid
 returns c =
-    let l = c.loop-i in
-    let q = c.args.self in
-    let e : is_empty q ≡ false = sym (empty-is q (search rules)) ∙ ne_eqb q.n 0 c.if-self-eq0.false in
-    let all : l.i ≡ waiting q = omega (arith, c.waiting-n.ensures) in
-    rw (e, l.invariant.3.held, l.invariant.3.count, all, waits-counted q)
+    let l = c.loop-wait in
+    let w = c.taken-wait-items.result.now in
+    let e : is_empty c.args.self ≡ false = sym c.is_empty.ensures ∙ c.if-is_empty.false in
+    rw (e, l.invariant.1.held, l.invariant.1.count, take_all l.wait-index w (omega arith), c.taken-wait-items.ensures)

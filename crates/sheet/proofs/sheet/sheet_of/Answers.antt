@@ -6,7 +6,7 @@ use Rattle.weight.specs.Mean.{mean_of}
 use Rattle.laws.proofs.Signed.{back}
 use Rattle.sheet.specs.Sheet.{sheet_of}
 use Rattle.spread.proofs.Tallies.{fit-facts}
-use Rattle.sheet.proofs.Facts.{mean-within, deviation_is}
+use Rattle.sheet.proofs.Facts.{mean_within, deviation_is}
 use Rattle.sheet.proofs.sheet.sheet_of.Goals as goal
 
 pub total_of-total-requires : goal.total_of-total-requires
@@ -17,7 +17,7 @@ deviation_of-requires c =
     let t = c.args.t in
     -- the mean is that of the sum
     let m : c.mean_of-mean.result ≡ mean_of t.sum t.n = rw (back t.sum (search rules)) at c.mean_of-mean.ensures in
-    (rw m (mean-within t c.requires.0), rw (to_z-of_z c.ranges.target) c.requires.1)
+    (rw m (mean_within t c.requires.0), rw (to_z-of_z c.ranges.target) c.requires.1)
 
 pub returns : goal.returns
 unfolding sheet_of

@@ -2,6 +2,6 @@
 use Rattle.part.specs.Classes.{counts_of}
 use Rattle.line.proofs.line.Line.clear_code.Goals as goal
 
-pub returns : goal.returns
+pub returns-clause-memory : goal.returns-clause-memory
 unfolding counts_of
-returns c = record { answer = simp (c.untallied.ensures, c.plain.ensures, c.code_cleared.ensures); memory = rw (c.none.ensures, c.empty.ensures) at c.write.ensures }
+returns-clause-memory c = rw (c.none.ensures, c.empty.ensures) at c.write.ensures

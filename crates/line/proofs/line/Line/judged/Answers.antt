@@ -17,12 +17,6 @@ use Rattle.weight.specs.Weight.{is_weight}
 use Rattle.line.specs.Verdict.{judged}
 use Rattle.line.proofs.line.Line.judged.Goals as goal
 
-pub returns-then-m-active : goal.returns-then-m-active
-unfolding judged
-returns-then-m-active c =
-    let n : SFits w64 c.args.active.nearzero = record { sfits = c.struct_told-1.given.1.1.1.1.1.0.1 } in
-    simp (c.dismissed.ensures, le_was c.ranges.m n c.if-m-active.true)
-
 -- a mean and a tare are weights
 sizes : (a : Settings) (m : ℤ) → record_fit a ≡ true → is_weight m ≡ true → nat_abs m + nat_abs a.tare < 2 ^ 63
 sizes a m r w =

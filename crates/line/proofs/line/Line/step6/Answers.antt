@@ -10,17 +10,5 @@ pub judged-requires : goal.judged-requires
 judged-requires c =
     let t = c.args.tick in
     let m = c.in-Mean.m in
-    let e = rw (back t.gross c.struct_told-1.given.1.0.1) at (sym c.weighed-weighed.ensures ∙ c.in-Mean.is) in
+    let e = rw (back t.gross c.struct_told-1.given.1.0.1) at (sym c.weighed.ensures ∙ c.in-Mean.is) in
     (c.requires.active, rw (back m c.in-Mean.known_told-in-Mean-1-own.given.0.1) (mean_weighs m (weighing c.args.self.item c.args.self.setup t.gross (timers c.args.self.setup c.requires.setup) c.requires.item c.requires.gross) e))
-
-pub returns-in-Still : goal.returns-in-Still
-unfolding step6 after_weighing
-returns-in-Still c =
-    let e = rw (back c.args.tick.gross c.struct_told-1.given.1.0.1) at (sym c.weighed-weighed.ensures ∙ c.in-Still.is) in
-    simp (c.plain.ensures, c.with_item.ensures, e)
-
-pub returns-in-Mean : goal.returns-in-Mean
-unfolding step6 after_weighing
-returns-in-Mean c =
-    let e = rw (back c.args.tick.gross c.struct_told-1.given.1.0.1) at (sym c.weighed-weighed.ensures ∙ c.in-Mean.is) in
-    simp (rw (back c.in-Mean.m c.in-Mean.known_told-in-Mean-1-own.given.0.1) at c.judged.ensures, c.with_item-in-Mean.ensures, e)

@@ -1,5 +1,0 @@
--- `emergency` hands the next line back with a reply that tallies nothing. Assumes nothing.
-use Rattle.line.proofs.line.Line.emergency.Goals as goal
-
-pub returns : goal.returns
-returns c = simp (c.untallied.ensures, c.alarmed.ensures)

@@ -1,5 +1,0 @@
--- `stop` hands the next line back with a reply that tallies nothing. Assumes nothing.
-use Rattle.line.proofs.line.Line.stop.Goals as goal
-
-pub returns : goal.returns
-returns c = simp (c.untallied.ensures, c.stopping.ensures)

@@ -1,9 +1,0 @@
--- `put_back` writes what is kept, if there is one. Assumes nothing.
-use borrow.Author.Tests.{eq-eqb, ne_eqb}
-use Rattle.undo.proofs.Undo.put_back.Goals as goal
-
-pub returns-then-self-eq0 : goal.returns-then-self-eq0
-returns-then-self-eq0 c = rw (eq-eqb _ _ c.if-self-eq0.true)
-
-pub returns : goal.returns
-returns c = rw (ne_eqb _ _ c.if-self-eq0.false) c.write.ensures
