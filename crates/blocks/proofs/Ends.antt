@@ -1,12 +1,12 @@
 -- Where a line of text ends in the input. Assumes nothing.
-use mathlib.Core.Path.{◌≡◌, refl, sym, ◌∙◌}
+use mathlib.Core.Path.{◌≡◌, refl, sym, ap, ◌∙◌}
 use mathlib.Core.Bool.{Bool, true, false, ◌||◌}
-use mathlib.Core.List.{List, [], ◌∷◌}
-use Prim.Native.Nat.{ℕ, zero, suc, ◌+◌, ◌≤◌, ◌<◌}
+use mathlib.Core.List.{List, [], ◌∷◌, ◌++◌}
+use Prim.Native.Nat.{ℕ, zero, suc, ◌+◌, ◌*◌, ◌≤◌, ◌<◌}
 use native.Mathlib.Omega.{arith}
 use lib.Dec.{eqb}
-use lib.ListN.{length, get_or, take, drop, length-drop, drop_of_length-le}
-use lib.Seq.{drop-drop, drop-cons, get_or-take}
+use lib.ListN.{length, get_or, take, drop, length-drop, length-append, drop_of_length-le}
+use lib.Seq.{drop-drop, drop-cons, drop_at, get_or-take, take_at}
 use Rattle.laws.proofs.Tests.{by_cases, never}
 use Rattle.lists.proofs.Past.{cut}
 use Rattle.decimal.specs.Bytes.{lf}
@@ -61,11 +61,30 @@ module _ (l : List ℕ) where
       let behind = drop-drop 16 i l in
       rw (none, behind) (omega arith)
 
-  pub ends-here : (i : ℕ) → i < length l → eqb (get_or l i 0) lf ≡ true → end_from l i ≡ i
-  ends-here i h e = rw (cut l i h, at-lf (get_or l i 0) (drop (i + 1) l) e) (omega arith)
+  pub ends_here : (i : ℕ) → i < length l → eqb (get_or l i 0) lf ≡ true → end_from l i ≡ i
+  ends_here i h e = rw (cut l i h, at-lf (get_or l i 0) (drop (i + 1) l) e) (omega arith)
 
   pub ends_last : (i : ℕ) → length l ≤ i → end_from l i ≡ i
   ends_last i h = rw (drop_of_length-le l h, no_more) (omega arith)
 
-  pub end-within : (i : ℕ) → i ≤ length l → end_from l i ≤ length l
-  end-within i h = let k = at_most (drop i l) in let n = length-drop i l in omega (arith, k, n, h)
+-- ---- by sixteens: behind so many of them, from a place on, these bytes are left, and the line of text has not ended
+pub record GoesOnFrom (l : List ℕ) (start k : ℕ) (rest : List ℕ) : Type 0 where
+  pub within : start + 16 * k ≤ length l
+  pub left : rest ≡ drop (start + 16 * k) l
+  pub same : end_from l (start + 16 * k) ≡ end_from l start
+
+pub sixteens_more : (l : List ℕ) (start k : ℕ) (rest bytes behind : List ℕ) → GoesOnFrom l start k rest → rest ≡ bytes ++ behind → length bytes ≡ 16
+    → lf_among bytes 16 ≡ false → GoesOnFrom l start (k + 1) behind
+sixteens_more l start k rest bytes behind g joined size none =
+    let place = start + 16 * k in
+    let here : drop place l ≡ bytes ++ behind = sym g.left ∙ joined in
+    let first : take 16 (drop place l) ≡ bytes = ap (take 16) here ∙ take_at bytes behind 16 size in
+    let next : place + 16 ≡ start + 16 * (k + 1) = omega arith in
+    let n = length-drop place l in
+    let m : length (drop place l) ≡ 16 + length behind = ap length here ∙ length-append bytes behind ∙ rw size refl in
+    let w = g.within in
+    record {
+      within = omega (arith, n, m, w);
+      left = sym (drop_at bytes behind 16 size) ∙ ap (drop 16) (sym here) ∙ drop-drop 16 place l ∙ ap (λ (j : ℕ). drop j l) next;
+      same = ap (end_from l) (sym next) ∙ skips l place (omega (arith, n, m, w)) (rw first none) ∙ g.same;
+    }

@@ -1,6 +1,5 @@
 -- What stands behind the bytes that are held, once more was read. Assumes nothing.
 --     fills_more     bytes were read
---     fills-none     none was read, and none is held
 --     fills-end      none was read, and an LF ends the bytes that are held
 use mathlib.Core.Path.{◌≡◌, refl, sym, ap, ◌∙◌}
 use mathlib.Core.Bool.{true, false}
@@ -44,19 +43,6 @@ module _ (before after : List ℕ) (held : ℕ) (l : Left) (r : ReadBehind befor
   module _ (over : last_of l ≡ true) where
     none : count_of r.got ≡ 0
     none = none_counted_lem r.got (ap is_over (sym r.stands) ∙ over)
-
-    pub fills-none : held ≡ 0 → Filled (take held before) l after
-    fills-none empty =
-        let end : l.end ≡ 0 = let e = r.counted in omega (arith, e, none, empty) in
-        record {
-          got = r.got;
-          new = [];
-          stands = r.stands;
-          counted = sym none;
-          order = let e = r.first in omega (arith, e);
-          within = r.within;
-          bytes = rw (r.first, end, empty, over) refl;
-        }
 
     pub fills-end : 0 < held → held < length before → length after ≡ length before → Filled (take held before) (record { start = 0; end = held + 1; over = l.over }) (set after held lf)
     fills-end some small same =

@@ -17,7 +17,7 @@ mod left;
 mod lines;
 mod output;
 
-pub use buffer::large_buffer;
+pub use buffer::{filled, large_buffer};
 pub use ended::Ended;
 pub use left::Left;
 pub use lines::line_end;

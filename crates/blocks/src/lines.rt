@@ -32,17 +32,16 @@ fn near_end(input: &[u8], start: usize) -> usize
     requires { start ≤ length input.now }
     ensures { (result ≤ length input.now) × (end_from input.now result ≡ end_from input.now start) }
 {
-    let mut i = start;
-    while 16 <= input.len() - i {
-        if has_lf(&input[i..i + 16]) {
-            return i;
+    for (k, bytes) in input[start..].chunks_exact(16).enumerate() {
+        if has_lf(bytes) {
+            return start + 16 * k;
         }
-        i += 16;
     }
-    i
+    start + (input.len() - start) / 16 * 16
 }
 
 // Where the line that begins at `start` ends: at its LF, or where the input ends. Past the input it ends where it begins.
+#[tactic(auto, using(crate::proofs::Ends::goes_on, crate::proofs::Ends::ends_here, crate::proofs::Ends::ends_last))]
 pub fn line_end(input: &[u8], start: usize) -> usize
     ensures { result ≡ end_from input.now start }
 {

@@ -1,5 +1,5 @@
 // What is printed goes to a writer.
-ghost use Rattle.std.specs.Prelude.{◌≡◌, min, length, take};
+ghost use Rattle.std.specs.Prelude.{◌≡◌, length, take};
 ghost use Rattle.std.specs.Io.KnownBytes.{Appends};
 ghost use Rattle.blocks.specs.Taken.{all_taken, TakenOf};
 
@@ -21,16 +21,16 @@ impl Taken {
     }
 }
 
-// Writes the first `end` bytes, until all are taken or a `write` takes none. The loop is here, since `write_all` does not say how
-// many bytes were taken before it failed.
-pub fn write_out<W: Write>(writer: &mut W, out: &[u8], end: usize) -> Taken
-    ensures taken { TakenOf (min end (length out.now)) result }
+// Writes these bytes, until all are taken or a `write` takes none. The loop is here, since `write_all` does not say how many
+// bytes were taken before it failed.
+pub fn write_out<W: Write>(writer: &mut W, out: &[u8]) -> Taken
+    ensures taken { TakenOf (length out.now) result }
     ensures written { Appends (W.contents writer.old) (W.contents writer.new) (take result.taken out.now) }
 {
-    let of = end.min(out.len());
+    let of = out.len();
     let mut done = 0;
     while done < of {
-        let put = writer.write(&out[done..of]).unwrap_or(0);
+        let put = writer.write(&out[done..]).unwrap_or(0);
         if put == 0 {
             return Taken { of, taken: done };
         }

@@ -10,7 +10,7 @@ use lib.IntN.{ℤ, nat_abs, ◌+ℤ◌}
 use lib.ListN.{length}
 use lib.Signed.{lt_z}
 use borrow.Author.Tests.{leb-true, le-leb, eq-eqb, ne_eqb}
-use Rattle.laws.specs.Choice.{when◌then◌else◌, within}
+use Rattle.laws.specs.Choice.{when◌then◌else◌}
 use Rattle.weight.specs.Weight.{is_weight}
 use Rattle.laws.proofs.Tests.{and_intro, if_ind, by_cases}
 use Rattle.laws.proofs.Signed.{abs_add}
@@ -18,7 +18,8 @@ use Rattle.lists.specs.Sums.{sum_of, squares_of}
 use Rattle.lists.specs.Each.{counted}
 use Rattle.lists.specs.Counts.{add_up, one_more}
 use Rattle.lists.proofs.Counts.{here, sum-one_more, tab-same, tab_length, tab-more}
-use Rattle.tally.specs.Tally.{graded, total, empty_tally, tally_fit, has_room, largest_with, smallest_with, counted_with, weighed_with, added, is_verdict}
+use Rattle.verdict.specs.Verdict.{is_verdict, is_grade}
+use Rattle.tally.specs.Tally.{graded, total, empty_tally, tally_fit, has_room, largest_with, smallest_with, counted_with, with_counts, weighed_with, added}
 use Rattle.tally.specs.declared.tally.Tally.{Tally}
 use Rattle.tally.proofs.Ones.{ones, grade_ones}
 use Rattle.book.specs.Book.{Verdict}
@@ -26,7 +27,7 @@ use Rattle.part.specs.Class.{holds, class_of}
 use Rattle.part.specs.Part.{empty_part, part_fit, added_part}
 use Rattle.part.proofs.Held.{class-known, holds-is}
 use Rattle.part.proofs.Laws.{part_fit_lem}
-use Rattle.book.specs.Page.{count_of, nets_of, largest_from, smallest_from, largest_of, smallest_of, tally_of_page, in_class, histogram, part_of_page}
+use Rattle.book.specs.Page.{count_of, nets_of, largest_from, smallest_from, largest_of, smallest_of, counts_of_page, tally_of_page, in_class, histogram, part_of_page}
 
 -- ---- one more verdict
 
@@ -34,14 +35,7 @@ use Rattle.book.specs.Page.{count_of, nets_of, largest_from, smallest_from, larg
 abbrev from : (p : List Verdict) → ℕ → ℤ → ℕ → ℤ → ℤ → Tally
 from p n s q a b =
     record {
-      lolo = count_of 1 p;
-      lo = count_of 2 p;
-      ok = count_of 3 p;
-      hi = count_of 4 p;
-      hihi = count_of 5 p;
-      foreign = count_of 6 p;
-      double = count_of 7 p;
-      crash = count_of 8 p;
+      counts = counts_of_page p;
       n = n;
       sum = s;
       squares = q;
@@ -62,9 +56,13 @@ unfolding smallest_from
 smallest-more x [] = refl
 smallest-more x (y ∷ ys) = rw (ne_eqb (suc (length ys)) 0 (λ h. omega arith))
 
+-- the tally of a page with one more count
+abbrev counted_more : Verdict → List Verdict → Tally
+counted_more v p = with_counts (tally_of_page p) (counted_with (tally_of_page p).counts v.outcome)
+
 pub page_more : (v : Verdict) (p : List Verdict) → tally_of_page (v ∷ p) ≡ added (tally_of_page p) v.outcome v.net
-unfolding tally_of_page added counted_with weighed_with largest_with smallest_with count_of nets_of sum_of squares_of
-page_more v p = go (within 1 5 v.outcome) refl
+unfolding tally_of_page counts_of_page added counted_with weighed_with largest_with smallest_with count_of nets_of sum_of squares_of
+page_more v p = go (is_grade v.outcome) refl
   where
     xs : List ℤ
     xs = nets_of p
@@ -73,9 +71,9 @@ page_more v p = go (within 1 5 v.outcome) refl
     Goal b =
         from (v ∷ p) (length (when b then v.net ∷ xs else xs)) (sum_of (when b then v.net ∷ xs else xs)) (squares_of (when b then v.net ∷ xs else xs))
         (largest_of (when b then v.net ∷ xs else xs)) (smallest_of (when b then v.net ∷ xs else xs))
-        ≡ (when b then weighed_with (counted_with (tally_of_page p) v.outcome) v.net else counted_with (tally_of_page p) v.outcome)
+        ≡ (when b then weighed_with (counted_more v p) v.net else counted_more v p)
 
-    go : (b : Bool) → within 1 5 v.outcome ≡ b → Goal (within 1 5 v.outcome)
+    go : (b : Bool) → is_grade v.outcome ≡ b → Goal (is_grade v.outcome)
     go true e =
         rw e (same_from (v ∷ p) (suc (length xs)) (length xs + 1) (sum_of xs +ℤ v.net) (squares_of xs + nat_abs v.net * nat_abs v.net)
         (largest_of (v.net ∷ xs)) (when eqb (length xs) 0 then v.net else (when lt_z (largest_of xs) v.net then v.net else largest_of xs))
@@ -95,7 +93,7 @@ pub data Fine : List Verdict → Type 0 where
   more : {v : Verdict} {p : List Verdict} → Proper v → Fine p → Fine (v ∷ p)
 
 pub page_total : {p : List Verdict} → Fine p → total (tally_of_page p) ≡ length p
-unfolding tally_of_page count_of
+unfolding tally_of_page counts_of_page count_of
 page_total none = refl
 page_total (more {v} {p} h f) = omega (arith, page_total f, ones v.outcome h.outcome)
 
@@ -104,10 +102,10 @@ length_if true x xs = omega arith
 length_if false x xs = omega arith
 
 page_graded : {p : List Verdict} → Fine p → graded (tally_of_page p) ≡ length (nets_of p)
-unfolding tally_of_page count_of nets_of
+unfolding tally_of_page counts_of_page count_of nets_of
 page_graded none = refl
 page_graded (more {v} {p} h f) =
-    omega (arith, page_graded f, grade_ones v.outcome, length_if (within 1 5 v.outcome) v.net (nets_of p))
+    omega (arith, page_graded f, grade_ones v.outcome, length_if (is_grade v.outcome) v.net (nets_of p))
 
 -- ---- fitness
 
@@ -119,7 +117,7 @@ nets-weights : {p : List Verdict} → Fine p → Weights (nets_of p)
 unfolding nets_of
 nets-weights none = none
 nets-weights (more {v} {p} h f) =
-    if_ind Weights (within 1 5 v.outcome) _ _ (λ _. more h.net (nets-weights f)) (λ _. nets-weights f)
+    if_ind Weights (is_grade v.outcome) _ _ (λ _. more h.net (nets-weights f)) (λ _. nets-weights f)
 
 sum-within : {xs : List ℤ} → Weights xs → nat_abs (sum_of xs) ≤ length xs * 999999
 unfolding sum_of
@@ -171,7 +169,7 @@ unfolding has_room
 page_room f = rw (page_total f)
 
 pub page_none : tally_of_page [] ≡ empty_tally
-unfolding tally_of_page count_of nets_of sum_of squares_of
+unfolding tally_of_page counts_of_page count_of nets_of sum_of squares_of
 page_none = refl
 
 -- ---- the class counts
@@ -188,36 +186,36 @@ module _ (v : Verdict) (p : List Verdict) where
   no_class : {a : Bool} (b : Bool) → a ≡ false → a && b ≡ false
   no_class b p = rw p refl
 
-  one : within 1 5 v.outcome ≡ true → (k : ℕ) → k < 21 → counted (in_class k) (v ∷ p) ≡ counted (in_class k) p + here class k
+  one : is_grade v.outcome ≡ true → (k : ℕ) → k < 21 → counted (in_class k) (v ∷ p) ≡ counted (in_class k) p + here class k
   unfolding counted
   one g k h =
       let e : in_class k v ≡ eqb class k = in_class_lem g (holds-is v.net v.target k (omega arith)) in
       rw e (omega arith)
 
-  none_more : within 1 5 v.outcome ≡ false → (k : ℕ) → k < 21 → counted (in_class k) (v ∷ p) ≡ counted (in_class k) p
+  none_more : is_grade v.outcome ≡ false → (k : ℕ) → k < 21 → counted (in_class k) (v ∷ p) ≡ counted (in_class k) p
   unfolding counted
   none_more n k h =
       let e : in_class k v ≡ false = no_class (holds k v.net v.target) n in
       rw e (omega arith)
 
-  graded-more : within 1 5 v.outcome ≡ true → histogram (v ∷ p) ≡ one_more (histogram p) class
+  graded-more : is_grade v.outcome ≡ true → histogram (v ∷ p) ≡ one_more (histogram p) class
   graded-more g =
       tab-same 21 (λ (k : ℕ). counted (in_class k) (v ∷ p)) (λ (k : ℕ). counted (in_class k) p + here class k) (one g)
       ∙ sym (tab-more 21 (λ (k : ℕ). counted (in_class k) p) class (omega (arith, class-known v.net v.target)))
 
-  other-more : within 1 5 v.outcome ≡ false → histogram (v ∷ p) ≡ histogram p
+  other-more : is_grade v.outcome ≡ false → histogram (v ∷ p) ≡ histogram p
   other-more n = tab-same 21 (λ (k : ℕ). counted (in_class k) (v ∷ p)) (λ (k : ℕ). counted (in_class k) p) (none_more n)
 
-  histogram-more : histogram (v ∷ p) ≡ (when within 1 5 v.outcome then one_more (histogram p) class else histogram p)
+  histogram-more : histogram (v ∷ p) ≡ (when is_grade v.outcome then one_more (histogram p) class else histogram p)
   histogram-more =
-      if_ind (λ (l : List ℕ). histogram (v ∷ p) ≡ l) (within 1 5 v.outcome) (one_more (histogram p) class) (histogram p) graded-more other-more
+      if_ind (λ (l : List ℕ). histogram (v ∷ p) ≡ l) (is_grade v.outcome) (one_more (histogram p) class) (histogram p) graded-more other-more
 
 pub part-more : (v : Verdict) (p : List Verdict) → part_of_page (v ∷ p) ≡ added_part (part_of_page p) v.outcome v.net v.target
 unfolding added_part
 part-more v p = rw (page_more v p, histogram-more v p)
 
 pub part_none : part_of_page [] ≡ empty_part
-unfolding tally_of_page count_of nets_of sum_of squares_of counted
+unfolding tally_of_page counts_of_page count_of nets_of sum_of squares_of counted
 part_none = refl
 
 none_counted_lem : add_up (histogram []) ≡ 0
@@ -229,7 +227,7 @@ pub counts_add : (p : List Verdict) → add_up (histogram p) ≡ length (nets_of
 unfolding nets_of
 counts_add [] = none_counted_lem
 counts_add (v ∷ p) =
-    by_cases (within 1 5 v.outcome)
+    by_cases (is_grade v.outcome)
     (λ g. ap add_up (graded-more v p g)
     ∙ sum-one_more (histogram p) (class v p) (omega (arith, class-known v.net v.target, tab_length 21 (λ (k : ℕ). counted (in_class k) p)))
     ∙ rw g (omega (arith, counts_add p)))

@@ -3,7 +3,8 @@ use Rattle.std.specs.Prelude.{ℕ, Bool, true, false, ◌&&◌, not, List, [], �
 use Rattle.laws.specs.Choice.{when◌then◌else◌}
 use Rattle.event.specs.declared.Event.{Event}
 use Rattle.event.specs.declared.Event.TheVariants.{Recall, Cancel, ClearCode, ClearAll, Store}
-use Rattle.tally.specs.Tally.{tally_limit, is_verdict}
+use Rattle.verdict.specs.Verdict.{is_verdict}
+use Rattle.tally.specs.Tally.{tally_limit}
 use Rattle.event.specs.Reply.{Reply}
 
 -- an event and its reply
@@ -62,7 +63,7 @@ commanded b (Recall c) = record b { code = c; chance = false }
 commanded b Cancel = record b { pages = turned b.pages b.code (last_off (b.pages b.code)); chance = false }
 commanded b (ClearCode c) = record b { pages = turned b.pages c []; chance = b.chance && not (eqb c b.code) }
 commanded b ClearAll = record b { pages = λ _. []; chance = false }
-commanded b (Store c s) = record b { targets = aimed b.targets c s.target }
+commanded b (Store s) = record b { targets = aimed b.targets s.code s.settings.target }
 commanded b e = b
 
 -- the book after an event and its reply; "refusals too" leave it as it is

@@ -2,6 +2,7 @@
 use Rattle.std.specs.Prelude.{ℕ, ◌+◌, ◌&&◌, ◌||◌, not, List, [], ◌∷◌, eqb, Ok, Err}
 use Rattle.laws.specs.Choice.{when◌then◌else◌, within, bit}
 use Rattle.event.specs.Reply.{Reply}
+use Rattle.verdict.specs.Verdict.{lolo, foreign, two_on, crash}
 use Rattle.book.specs.Book.{Turn}
 
 abbrev pub detected_by : Reply → ℕ
@@ -23,7 +24,7 @@ detected_in h = sum_over detected_by h
 
 -- "judged counts outcomes 1 to 6 and 8"
 abbrev pub is_judged : ℕ → ℕ
-is_judged o = bit (within 1 6 o || eqb o 8)
+is_judged o = bit (within lolo foreign o || eqb o crash)
 
 abbrev pub judged_in : List Turn → ℕ
 judged_in h = sum_over (λ r. is_judged (outcome_of r)) h
@@ -37,4 +38,4 @@ unfoldable pub in_hand_after : List Turn → ℕ
 in_hand_after [] = 0
 in_hand_after (t ∷ h) =
     when eqb (detected_by t.reply) 0 && eqb (outcome_of t.reply) 0 then in_hand_after h
-    else bit (eqb (detected_by t.reply) 1 && not (eqb (outcome_of t.reply) 7))
+    else bit (eqb (detected_by t.reply) 1 && not (eqb (outcome_of t.reply) two_on))

@@ -1,11 +1,11 @@
 -- What the sentences of the book come to, as one theorem on its definitions.
 use Rattle.std.specs.Prelude.{ℕ, ◌≤◌, ◌<◌, ◌≡◌, true, false, List, [], ◌∷◌, length}
+use Rattle.event.specs.declared.Stored.{Stored}
 use Rattle.event.specs.declared.Event.TheVariants.{Recall, Cancel, ClearCode, ClearAll, Store}
 use Rattle.tally.specs.Tally.{tally_limit}
 use Rattle.book.specs.Book.{Verdict, Book, has_place, entered, commanded}
 use Rattle.part.specs.Part.{added_part}
 use Rattle.lists.specs.Counts.{add_up}
-use Rattle.settings.specs.declared.Settings.{Settings}
 use Rattle.book.specs.Page.{nets_of, histogram, part_of_page}
 
 pub record Laws : Type 0 where
@@ -14,8 +14,8 @@ pub record Laws : Type 0 where
   -- "The 21 counts add to n"
   pub counts : (p : List Verdict) → add_up (histogram p) ≡ length (nets_of p)
   -- T-05: the target is "from the last accepted store" of a code, and a store leaves every page
-  pub stored : (b : Book) (c : ℕ) (s : Settings) → (commanded b (Store c s)).targets c ≡ s.target
-  pub store-leaves : (b : Book) (c : ℕ) (s : Settings) (k : ℕ) → (commanded b (Store c s)).pages k ≡ b.pages k
+  pub stored : (b : Book) (s : Stored) → (commanded b (Store s)).targets s.code ≡ s.settings.target
+  pub store-leaves : (b : Book) (s : Stored) (k : ℕ) → (commanded b (Store s)).pages k ≡ b.pages k
   -- "if fewer than 999,999 are there"
   pub place : (b : Book) → length (b.pages b.code) < tally_limit → has_place b ≡ true
   pub no_place : (b : Book) → tally_limit ≤ length (b.pages b.code) → has_place b ≡ false

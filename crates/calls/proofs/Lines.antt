@@ -17,6 +17,7 @@ use Rattle.controller.proofs.Lines.{lines_end, lines-lf, lines_other, lines-clos
 use Rattle.blocks.specs.Lines.{line_length, NoLf}
 use Rattle.blocks.specs.Left.{kept_bytes, at_end}
 use Rattle.blocks.proofs.Ends.{at-lf, before-lf, no_more}
+use Rattle.std.specs.Prelude.{Option}
 use Rattle.calls.specs.Service.{Service}
 use Rattle.calls.specs.Traces.{entries_of}
 
@@ -117,7 +118,7 @@ ended-closed (b ∷ t) k h = behind-end (b ∷ t) k h
 
 module _ (p : Service) where
   -- where some bytes of a line stand before
-  abbrev entries_from : List ℕ → List ℕ → List p.Entry
+  abbrev entries_from : List ℕ → List ℕ → List (Option p.Entry)
   entries_from before more = map p.reads (lines_from before more)
 
   pub first_entry : (bs more : List ℕ) → line_length bs < length bs
@@ -131,14 +132,14 @@ module _ (p : Service) where
   module _ (cut : (t : List ℕ) → p.reads (take kept_bytes t) ≡ p.reads t) where
     cut-last : (t : List ℕ) → map p.reads (last_line (take kept_bytes t)) ≡ map p.reads (last_line t)
     cut-last [] = refl
-    cut-last (b ∷ t) = ap (λ (e : p.Entry). e ∷ []) (cut (b ∷ t))
+    cut-last (b ∷ t) = ap (λ (e : Option p.Entry). e ∷ []) (cut (b ∷ t))
 
     cut-entries : (more t : List ℕ) → entries_from (take kept_bytes t) more ≡ entries_from t more
     cut-entries [] t = ap (map p.reads) (lines_end (take kept_bytes t)) ∙ cut-last t ∙ ap (map p.reads) (sym (lines_end t))
     cut-entries (b ∷ more) t =
         by_cases (eqb b lf)
         (λ y.
-        ap (map p.reads) (lines-lf (take kept_bytes t) b more y) ∙ ap (λ (e : p.Entry). e ∷ entries_of p more) (cut t)
+        ap (map p.reads) (lines-lf (take kept_bytes t) b more y) ∙ ap (λ (e : Option p.Entry). e ∷ entries_of p more) (cut t)
         ∙ ap (map p.reads) (sym (lines-lf t b more y)))
         (λ n.
         ap (map p.reads) (lines_other (take kept_bytes t) b more n)

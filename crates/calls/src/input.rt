@@ -2,14 +2,16 @@
 ghost use Rattle.std.specs.Prelude.{ℕ, ◌≡◌, ◌≤◌, List, [], length, take};
 ghost use Rattle.blocks.specs.Left.{kept_bytes};
 ghost use Rattle.blocks.specs.Known.{streams};
-ghost use Rattle.calls.specs.Service.{Service};
-ghost use Rattle.calls.specs.Traces.{output_room, EndsSo, Finished};
+ghost use Rattle.calls.specs.Service.{Service, after_line, SaysLine};
+ghost use Rattle.calls.specs.Traces.{Answers, EndsSo, Finished};
 
-use blocks::{Ended, Left, large_buffer, line_end, write_out};
+use crate::parts::refuse;
+use blocks::{Ended, Left, filled, large_buffer, line_end, write_out};
+use refusal::Refusal;
 use std::io::{Read, Write};
 
 // What a call prints has room in so many bytes, whichever program's it is.
-const OUTPUT_ROOM: usize = 262_144;
+pub const OUTPUT_ROOM: usize = 262_144;
 
 // The calls of a program, as it keeps them from line to line.
 pub trait Calls {
@@ -21,26 +23,22 @@ pub trait Calls {
 
     ghost sound: { Self → Type 0 };
 
-    // the room in bytes that what is printed needs
-    ghost room: { ℕ };
-
     // No call has begun.
     fn fresh() -> Self
         ensures { sound result × (state result ≡ service.start) };
 
-    // A line of text: what it prints goes to the front of `out`, and its length is the answer.
-    fn line(&mut self, line: &[u8], out: &mut [u8]) -> usize
-        requires { sound self.old × (room ≤ length out.old) }
-        ensures kept { sound self.new × (result ≤ length out.new) }
-        ensures after { state self.new ≡ service.after (state self.old) (service.reads line.now) }
-        ensures says { service.Says (state self.old) (service.reads line.now) (take result out.new) };
+    // A line of text: what it prints goes to the front of `out`, and its length is the answer; none where it says nothing, or
+    // what has no place, and then all is left as it is.
+    fn line(&mut self, line: &[u8], out: &mut [u8; OUTPUT_ROOM]) -> Option<usize>
+        requires { sound self.old }
+        ensures kept { sound self.new }
+        ensures answers { Answers service (state self.old) (service.reads line.now) (state self.new) out.new result };
 
     // What ends the last call, in the same way.
-    fn close(&mut self, out: &mut [u8]) -> usize
-        requires { sound self.old × (room ≤ length out.old) }
-        ensures { (result ≤ length out.new) × service.Closes (state self.old) (take result out.new) };
-
-    ghost room_fits: { room ≤ output_room };
+    fn close(&mut self, out: &mut [u8; OUTPUT_ROOM]) -> usize
+        requires { sound self.old }
+        ensures kept { sound self.new }
+        ensures closes { (result ≤ length out.new) × service.Closes (state self.old) (take result out.new) };
 
     // a line reads as what is kept of it, and before the first call the end prints nothing
     ghost cut: { (t : List ℕ) → service.reads (take kept_bytes t) ≡ service.reads t };
@@ -48,20 +46,31 @@ pub trait Calls {
     ghost quiet: { (text : List ℕ) → service.Closes service.start text → text ≡ [] };
 }
 
-// Zeros for what is printed; it says its length alone.
-fn output() -> [u8; OUTPUT_ROOM]
-    ensures { length result ≡ output_room }
+// A line of text: what it prints goes to the front of `out`, and its length is the answer. One of no form or place is refused.
+fn serve_line<C: Calls>(calls: &mut C, line: &[u8], out: &mut [u8; OUTPUT_ROOM]) -> usize
+    requires { C.sound calls.old }
+    ensures kept { C.sound calls.new × (result ≤ length out.new) }
+    ensures after { C.state calls.new ≡ after_line C.service (C.state calls.old) (C.service.reads line.now) }
+    ensures says { SaysLine C.service (C.state calls.old) (C.service.reads line.now) (take result out.new) }
 {
-    [0; OUTPUT_ROOM]
+    match calls.line(line, out) {
+        Some(at) => at,
+        None => refuse(out, Refusal::Form.number()),
+    }
 }
 
 // The end of the input ends the last call.
-fn finish<C: Calls, W: Write>(calls: &mut C, writer: &mut W, out: &mut [u8], left: Left) -> Ended
-    requires { C.sound calls.old × (C.room ≤ length out.old) }
+fn finish<C: Calls, W: Write>(
+    calls: &mut C,
+    writer: &mut W,
+    out: &mut [u8; OUTPUT_ROOM],
+    left: Left,
+) -> Ended
+    requires { C.sound calls.old }
     ensures { Finished C.service (C.state calls.old) left (W.contents writer.old) (W.contents writer.new) result }
 {
-    let at = calls.close(out);
-    let taken = write_out(writer, out, at);
+    let end = calls.close(out);
+    let taken = write_out(writer, &out[..end]);
     if taken.all() {
         return Ended::Input(left);
     }
@@ -73,12 +82,10 @@ pub fn serve_input<C: Calls + Drop, R: Read, W: Write>(reader: &mut R, writer: &
     ensures { EndsSo C.service (streams (R.remaining reader.old) (W.contents writer.old)) (streams (R.remaining reader.new) (W.contents writer.new)) result }
 {
     let mut input = large_buffer();
-    let mut out = output();
+    let mut out: [u8; OUTPUT_ROOM] = filled(0);
     let mut calls = C::fresh();
     let mut left = Left::none();
-    let mut turns = 0;
-    while turns < u64::MAX {
-        turns += 1;
+    for _ in 0..u64::MAX {
         let start = left.start;
         let last = left.end;
         let end = line_end(&input[..last], start);
@@ -89,12 +96,12 @@ pub fn serve_input<C: Calls + Drop, R: Read, W: Write>(reader: &mut R, writer: &
             left = left.refilled(reader, &mut input);
             continue;
         }
-        let at = calls.line(&input[start..end], &mut out);
-        let taken = write_out(writer, &out, at);
+        let at = serve_line(&mut calls, &input[start..end], &mut out);
+        let taken = write_out(writer, &out[..at]);
         if !taken.all() {
             return Ended::Output(taken);
         }
         left = left.past(end - start + 1);
     }
-    Ended::Turns(turns)
+    Ended::Turns
 }

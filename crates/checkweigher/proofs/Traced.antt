@@ -6,18 +6,18 @@
 --     traced_begun     at any time it is the beginning of it
 use mathlib.Core.Path.{◌≡◌, refl, sym, ap, subst, ◌∙◌}
 use mathlib.Core.Logic.{◌≢◌}
-use mathlib.Core.Bool.{Bool, true, false, ◌&&◌, not}
+use mathlib.Core.Bool.{Bool, true, false}
 use mathlib.Core.List.{List, [], ◌∷◌, ◌++◌, append_assoc, append-nil}
 use Prim.Native.Nat.{ℕ, ◌+◌, ◌-◌, ◌≤◌, ◌<◌, min}
 use native.Mathlib.Omega.{arith}
 use lib.Dec.{eqb, ltb}
 use lib.ListN.{length, take, drop, length-drop}
-use lib.Seq.{take-add, take-take, drop_at, drop-drop, length-take-le}
-use borrow.Author.Tests.{le-leb, ltb-true, ltb-false, eqb-true, eqb-false}
+use lib.Seq.{take-add, take_all, drop_at, drop-drop, length-take-le}
+use borrow.Author.Tests.{ltb-true, ltb-false, eqb-true, eqb-false}
 use Rattle.laws.proofs.Tests.{by_cases, never}
 use Rattle.line.specs.State.{State, fresh_state}
 use Rattle.blocks.specs.Lines.{NoLf}
-use Rattle.blocks.specs.Left.{kept_bytes, last_of, EndSeen, bytes_left, past_of, at_end, Filled}
+use Rattle.blocks.specs.Left.{kept_bytes, last_of, EndSeen, bytes_left, past_of, at_end, Filled, Refilled}
 use Rattle.blocks.specs.declared.left.Left.{Left}
 use Rattle.blocks.specs.declared.output.Taken.{Taken}
 use Rattle.blocks.specs.Taken.{TakenOf}
@@ -28,7 +28,7 @@ use Rattle.std.specs.Io.KnownBytes.{Consumes, Appends, IsAtEnd}
 use Rattle.controller.specs.Answer.{no_room}
 use Rattle.controller.specs.Input.{printed, program}
 use Rattle.sessions.specs.Sessions.{Says, AnsweredUpTo}
-use Rattle.checkweigher.specs.Traces.{GoesOn, Gives, written_in, Traced, Whole, Begun, CutShort}
+use Rattle.checkweigher.specs.Traces.{written_in, Traced, Whole, Begun, CutShort}
 use Rattle.checkweigher.proofs.Prints.{prints-none, prints-kept, prints-closed, kept_no_lf, ended-closed}
 
 written_none : written_in [] ≡ []
@@ -194,62 +194,47 @@ module _ (before now : Streams) (input out : List ℕ) (left : Left) (s p : Stat
   stays : left.start + k ≤ left.end
   stays = place-within input left.start left.end k order within a.place
 
-  -- `write` was given what was due
-  given : (taken : Taken) → TakenOf (min at (length out)) taken → (taken.of ≡ at) × (taken.taken ≤ taken.of)
-  given taken g =
+  pub turn-cut : (taken : Taken) → TakenOf (length (take at out)) taken → eqb taken.taken taken.of ≡ false
+      → (holds : Option (List ℕ)) → Appends now.holds holds (take taken.taken (take at out)) → CutShort before (streams now.left holds) taken
+  turn-cut taken g n holds w =
+      let d = eqb-false taken.taken taken.of n in
       let e = g.whole in
       let h = g.within in
-      let w = a.fits in
-      (omega (arith, e, w), omega (arith, e, h))
-
-  pub turn-cut : (taken : Taken) → TakenOf (min at (length out)) taken → eqb taken.taken taken.of ≡ false
-      → (holds : Option (List ℕ)) → Appends now.holds holds (take taken.taken out) → CutShort before (streams now.left holds) taken
-  turn-cut taken g n holds w =
-      let h = given taken g in
-      let d = eqb-false taken.taken taken.of n in
-      let most = h.1 in
-      let size : length (take at out) ≡ taken.of = length-take-le at out a.fits ∙ sym h.0 in
-      let e = h.0 in
-      let part : take taken.taken (take at out) ≡ take taken.taken out = take-take taken.taken at out (omega (arith, most, e)) in
-      traced_cut before now s (bytes_left left input) (last_of left) turns t p (drop k (bytes_left left input)) (take at out) says taken size (below taken.taken taken.of most d) holds
-      (subst (Appends now.holds holds) (sym part) w)
+      traced_cut before now s (bytes_left left input) (last_of left) turns t p (drop k (bytes_left left input)) (take at out) says taken (sym e) (below taken.taken taken.of (omega (arith, e, h)) d) holds w
 
   -- all of it was taken
-  module _ (taken : Taken) (g : TakenOf (min at (length out)) taken) (all : eqb taken.taken taken.of ≡ true)
-      (holds : Option (List ℕ)) (w : Appends now.holds holds (take taken.taken out)) where
-    took : taken.taken ≡ at
-    took = eqb-true taken.taken taken.of all ∙ (given taken g).0
-
-    wrote : Says s (bytes_left left input) p (drop k (bytes_left left input)) (take taken.taken out)
-    wrote = rw took says
-
+  module _ (taken : Taken) (g : TakenOf (length (take at out)) taken) (all : eqb taken.taken taken.of ≡ true)
+      (holds : Option (List ℕ)) (w : Appends now.holds holds (take taken.taken (take at out))) where
     turned : Traced before (streams now.left holds) p (drop k (bytes_left left input)) (last_of left) (turns + 1)
-    turned = traced_on before now s (bytes_left left input) (last_of left) turns t p k (take taken.taken out) wrote holds w
+    turned =
+        let e = eqb-true taken.taken taken.of all in
+        let m = g.whole in
+        traced_on before now s (bytes_left left input) (last_of left) turns t p k (take at out) says holds
+        (subst (Appends now.holds holds) (take_all taken.taken (take at out) (omega (arith, e, m))) w)
 
-    none_left_lem : no_room (length out) at ≡ false → NoLf (drop k (bytes_left left input))
-    none_left_lem e = rw part (a.all e)
+    -- with too little room for the next answer what is left stays
+    pub turn-stays : ((past_of left k).start ≤ (past_of left k).end) × (left.end ≤ length input)
+        × Traced before (streams now.left holds) p (bytes_left (past_of left k) input) (last_of left) (turns + 1)
+    turn-stays =
+        (past_order left k stays, within, subst (λ (x : List ℕ). Traced before (streams now.left holds) p x (last_of left) (turns + 1)) (sym (past_is left input k stays)) turned)
 
-    pub turn-ends : no_room (length out) at ≡ false → last_of left ≡ true → Whole before (streams now.left holds)
-    turn-ends e y = traced_ends before (streams now.left holds) p (drop k (bytes_left left input)) (last_of left) (turns + 1) turned y (none_left_lem e)
+    module _ (roomy : no_room (length out) at ≡ false) where
+      none_left_lem : NoLf (drop k (bytes_left left input))
+      none_left_lem = rw part (a.all roomy)
 
-    pub turn-goes : (full : Bool) → full ≡ no_room (length out) at → not full && last_of left ≡ false → kept_bytes < length input
-        → (l : Left) (after : List ℕ) → GoesOn full (past_of left k) input l after
-        → (reads : Option (List ℕ)) → Gives full (past_of left k) input now.left reads l after → (EndSeen left → IsAtEnd now.left)
-        → (length after ≡ length input) × (l.start ≤ l.end) × (l.end ≤ length input) × Traced before (streams reads holds) p (bytes_left l after) (last_of l) (turns + 1)
-        × (EndSeen l → IsAtEnd reads)
-    turn-goes true e n big l after g reads d z =
-        let on = past_is left input k stays in
-        rw (g.0, g.1, d) (refl, past_order left k stays, within, subst (λ (x : List ℕ). Traced before (streams now.left holds) p x (last_of left) (turns + 1)) (sym on) turned, z)
-    turn-goes false e n big l after g reads d z =
-        let is = past_is left input k stays in
-        let f : Filled (take kept_bytes (drop k (bytes_left left input))) l after = subst (λ (x : List ℕ). Filled (take kept_bytes x) l after) is (g.filled big) in
-        let drawn : Drawn now.left reads (take kept_bytes (drop k (bytes_left left input))) l after = subst (λ (x : List ℕ). Drawn now.left reads (take kept_bytes x) l after) is (d big) in
-        let m = g.same_length in
-        let v = f.within in (
-          m,
-          f.order,
-          omega (arith, m, v),
-          traced_more before (streams now.left holds) p (drop k (bytes_left left input)) (turns + 1)
-              (subst (λ (x : Bool). Traced before (streams now.left holds) p (drop k (bytes_left left input)) x (turns + 1)) n turned) (none_left_lem (sym e)) l after f reads drawn,
-          drawn.ended,
-        )
+      pub turn-ends : last_of left ≡ true → Whole before (streams now.left holds)
+      turn-ends y = traced_ends before (streams now.left holds) p (drop k (bytes_left left input)) (last_of left) (turns + 1) turned y none_left_lem
+
+      pub turn-reads : last_of left ≡ false → kept_bytes < length input → (l : Left) (after : List ℕ) → Refilled (past_of left k) input l after
+          → (reads : Option (List ℕ)) → Drawn now.left reads (take kept_bytes (bytes_left (past_of left k) input)) l after
+          → (l.start ≤ l.end) × (l.end ≤ length after) × Traced before (streams reads holds) p (bytes_left l after) (last_of l) (turns + 1) × (EndSeen l → IsAtEnd reads)
+      turn-reads n big l after g reads d =
+          let is = past_is left input k stays in
+          let f : Filled (take kept_bytes (drop k (bytes_left left input))) l after = subst (λ (x : List ℕ). Filled (take kept_bytes x) l after) is (g.filled big) in
+          let drawn : Drawn now.left reads (take kept_bytes (drop k (bytes_left left input))) l after = subst (λ (x : List ℕ). Drawn now.left reads (take kept_bytes x) l after) is d in (
+            f.order,
+            f.within,
+            traced_more before (streams now.left holds) p (drop k (bytes_left left input)) (turns + 1)
+                (subst (λ (x : Bool). Traced before (streams now.left holds) p (drop k (bytes_left left input)) x (turns + 1)) n turned) none_left_lem l after f reads drawn,
+            drawn.ended,
+          )

@@ -1,25 +1,14 @@
 -- What was read and what was written, turn by turn, and how it ends. The input is what its reader gives, and what is written is what its writer takes, where it is known which bytes they have.
-use Rattle.std.specs.Prelude.{ℕ, ◌-◌, ◌<◌, ◌^◌, ◌≡◌, Bool, true, false, List, [], ◌∷◌, ◌++◌, Option, length, take, drop}
+use Rattle.std.specs.Prelude.{ℕ, ◌-◌, ◌<◌, ◌^◌, ◌≡◌, Bool, true, List, [], ◌∷◌, ◌++◌, length, take, drop}
 use Rattle.std.specs.Io.KnownBytes.{IsAtEnd}
 use Rattle.line.specs.State.{State}
 use Rattle.blocks.specs.Lines.{NoLf}
-use Rattle.blocks.specs.Left.{kept_bytes, last_of, bytes_left, EndSeen, Refilled}
-use Rattle.blocks.specs.Known.{Streams, Drawn, Passed}
+use Rattle.blocks.specs.Left.{last_of, EndSeen}
+use Rattle.blocks.specs.Known.{Streams, Passed}
 use Rattle.blocks.specs.declared.ended.Ended.{Ended}
 use Rattle.blocks.specs.declared.ended.Ended.TheVariants.{Input, Output, Turns}
-use Rattle.blocks.specs.declared.left.Left.{Left}
 use Rattle.blocks.specs.declared.output.Taken.{Taken}
 use Rattle.controller.specs.Input.{printed, program}
-
--- more is read where no complete line of text is left
-abbrev pub GoesOn : Bool → Left → List ℕ → Left → List ℕ → Type 0
-GoesOn true rest before left after = (left ≡ rest) × (after ≡ before)
-GoesOn false rest before left after = Refilled rest before left after
-
--- what the reader gives then
-abbrev pub Gives : Bool → Left → List ℕ → Option (List ℕ) → Option (List ℕ) → Left → List ℕ → Type 0
-Gives true rest before gives gave left after = gave ≡ gives
-Gives false rest before gives gave left after = kept_bytes < length before → Drawn gives gave (take kept_bytes (bytes_left rest before)) left after
 
 -- all that was written, where each turn wrote so much; the last one stands first
 unfoldable pub written_in : List (List ℕ) → List ℕ
@@ -62,8 +51,8 @@ pub record CutShort (before now : Streams) (t : Taken) : Type 0 where
   pub less : t.taken < t.of
   pub begun : program input ≡ (written_in written ++ due) ++ rest
 
--- no more input will come, and all is printed; or `write` did not take all; or all turns were made. Where the input has ended, the reader has no more
+-- no more input will come, and all is printed; or `write` did not take all; or all turns were made, as many as 64 bits can count. Where the input has ended, the reader has no more
 abbrev pub EndsSo : Streams → Streams → Ended → Type 0
 EndsSo before now (Input left) = (last_of left ≡ true) × (EndSeen left → IsAtEnd now.left) × Whole before now
 EndsSo before now (Output taken) = CutShort before now taken
-EndsSo before now (Turns turns) = (turns ≡ 2 ^ 64 - 1) × Begun before now turns
+EndsSo before now Turns = Begun before now (2 ^ 64 - 1)

@@ -1,8 +1,6 @@
 // The input to the output, until the input ends.
-ghost use Rattle.std.specs.Prelude.{◌≡◌, length};
-ghost use Rattle.controller.specs.Answer.{no_room};
 ghost use Rattle.blocks.specs.Known.{streams};
-ghost use Rattle.checkweigher.specs.Traces.{GoesOn, Gives, EndsSo};
+ghost use Rattle.checkweigher.specs.Traces.{EndsSo};
 
 use blocks::{Ended, Left, large_buffer, write_out};
 use controller::no_room;
@@ -10,24 +8,6 @@ use line::Line;
 use sessions::serve_block;
 use settings::{RECORDS, Settings};
 use std::io::{Read, Write};
-
-// The next answer may have too little room behind `at`: lines may be left that are complete.
-fn is_full(out: &[u8], at: usize) -> bool
-    ensures { result ≡ no_room (length out.now) at }
-{
-    no_room(out.len(), at)
-}
-
-// More is read where no line is left that is complete.
-fn go_on<R: Read>(reader: &mut R, input: &mut [u8], rest: Left, full: bool) -> Left
-    ensures goes_on { GoesOn full rest input.old result input.new }
-    ensures gives { Gives full rest input.old (R.remaining reader.old) (R.remaining reader.new) result input.new }
-{
-    if full {
-        return rest;
-    }
-    rest.refilled(reader, &mut *input)
-}
 
 // From a fresh line and memory: the lines in the buffer that are complete are answered, as many as the output has room for,
 // and the answers written; where none is left, more is read.
@@ -43,18 +23,26 @@ pub(crate) fn serve_input<R: Read, W: Write>(reader: &mut R, writer: &mut W) -> 
     for _ in 0..u64::MAX {
         let start = left.start;
         let end = left.end;
-        let block = serve_block(line, settings, &mut tallies, &input[start..end], &mut out);
-        let taken = write_out(writer, &out, block.at);
+        let block = serve_block(
+            &mut line,
+            &mut settings,
+            &mut tallies,
+            &input[start..end],
+            &mut out,
+        );
+        let taken = write_out(writer, &out[..block.at]);
         if !taken.all() {
             return Ended::Output(taken);
         }
-        let full = is_full(&out, block.at);
-        if !full & left.is_last() {
+        left = left.past(block.start);
+        // With too little room for the next answer lines may be left that are complete.
+        if no_room(out.len(), block.at) {
+            continue;
+        }
+        if left.is_last() {
             return Ended::Input(left);
         }
-        left = go_on(reader, &mut input, left.past(block.start), full);
-        line = block.line;
-        settings = block.settings;
+        left = left.refilled(reader, &mut input);
     }
-    Ended::Turns(u64::MAX)
+    Ended::Turns
 }

@@ -1,17 +1,17 @@
 -- Demand 3: what holds of a fresh line and memory is kept by every event, so it holds after every list. Assumes nothing.
-use mathlib.Core.Path.{◌≡◌, refl, sym, ap, subst, ◌∙◌}
+use mathlib.Core.Path.{◌≡◌, refl, sym, ap, ◌∙◌}
 use mathlib.Core.Logic.{◌≢◌}
 use mathlib.Core.Bool.{true, not, or-true}
 use mathlib.Core.List.{List, [], ◌∷◌}
 use Prim.Native.Nat.{ℕ, ◌+◌, ◌*◌, ◌≤◌}
 use native.Mathlib.Omega.{arith}
-use lib.Dec.{T, eqb, leb}
+use lib.Dec.{eqb, leb}
 use lib.IntN.{ℤ, pos}
 use lib.ListN.{length, get_or, set, replicate, length-set, length-replicate, get_or-replicate}
 use lib.Seq.{get_or-set_same, get_or-set_other}
 use borrow.Author.Tests.{eqb-true, eqb-false, leb-true, le-leb}
 use Rattle.laws.specs.Choice.{when◌then◌else◌, bit}
-use Rattle.laws.proofs.Tests.{both, and_intro, if_ind, by_cases}
+use Rattle.laws.proofs.Tests.{both, and_intro, by_cases}
 use Rattle.settings.specs.Settings.{blank, record_fit, record_ranged, limits_ordered, settings_length}
 use Rattle.settings.specs.declared.Settings.{Settings}
 use Rattle.device.specs.Sensor.{sensor_fit}
@@ -22,45 +22,41 @@ use Rattle.lists.specs.Each.{all_of}
 use Rattle.event.specs.Setup.{sorter_ranged, sorters_ranged, setup_ranged, edge_agrees, masks_agree, setup_agrees}
 use Rattle.event.specs.Event.{event_ranged, event_agrees}
 use Rattle.event.specs.declared.Event.{Event}
-use Rattle.event.specs.declared.Event.TheVariants.{Sample, Run, Stop, Emergency, Recall, Cancel, ClearCode, ClearAll, ErrorReset, NoOperation, Setup, Store}
+use Rattle.event.specs.declared.Event.TheVariants.{Sample, Cancel, Store}
 use Rattle.line.specs.Line.{fresh_line, busy}
 use Rattle.status.specs.Status.{error_known}
 use Rattle.line.specs.Fit.{status_fit}
 use Rattle.event.specs.Sample.{last_fit}
 use Rattle.item.specs.Item.{in_hand, item_fit}
-use Rattle.undo.specs.Undo.{undo_fit, no_chance}
+use Rattle.undo.specs.Undo.{undo_fit}
 use Rattle.refusal.specs.Rows.{lengths_wrong, reads_record, reads_tally, refused_running, refused_in_emergency, refused_paused, run_unsafe, run_occupied, nothing_to_cancel}
 use Rattle.line.specs.Refusal.{memory_sound, faults_of, refusal_of}
-use Rattle.line.specs.Tallying.{Out, untallied, noted, recorded}
+use Rattle.line.specs.Tallying.{Out}
 use Rattle.line.specs.State.{active_of}
 use Rattle.line.specs.Sample.{sampled}
 use Rattle.line.specs.Storing.{stored}
 use Rattle.line.specs.Step.{accepted, refused, step_of, out_on}
-use Rattle.undo.specs.declared.Undo.{Undo}
 use Rattle.line.specs.declared.line.Line.{Line}
-use Rattle.line.specs.declared.effect.Effect.{Effect}
-use Rattle.event.specs.Reply.{Reply}
 use Rattle.refusal.specs.declared.Refusal.{Refusal}
 use Rattle.refusal.specs.declared.Refusal.TheVariants.{Nothing}
 use Rattle.refusal.specs.Table.{memory_no, nothing_no, number_in}
 use Rattle.refusal.proofs.Lengths.{right_lengths}
 use Rattle.refusal.proofs.Numbers.{not_eight}
 use Rattle.line.proofs.Facts.{FitLine, tells_fit}
-use Rattle.line.proofs.Accepted.{step_ind}
+use Rattle.line.proofs.Accepted.{step_ind, none_recorded}
 use Rattle.book.specs.Book as book
 use Rattle.book.specs.Book.{Verdict, Pages, Turn, aimed, tallied_by, book_of}
 use Rattle.book.specs.Page.{nets_of, tally_of_page, part_of_page}
 use Rattle.book.proofs.Pages.{page_fit}
-use Rattle.std.specs.Prelude.{Some, None, Ok, Err}
+use Rattle.std.specs.Prelude.{Option, Some, None, is_none, is_some, Ok}
 use Rattle.claim.specs.Run.{World, fresh_world, answer, after, run_from, run}
 use Rattle.book.specs.Boxes.{detected_by, outcome_of, sum_over, detected_in, judged_in, outcomes_in, in_hand_after}
 use Rattle.claim.specs.Claim.{refusal_in, Stands, Claim}
 use Rattle.line.proofs.Moves as moves
 use Rattle.claim.proofs.Level.{Level, level}
 use Rattle.line.proofs.Ticks.{hand}
-use Rattle.tally.specs.Tally.{is_verdict}
 use Rattle.lists.specs.Counts.{add_up}
-use Rattle.part.specs.Part.{Part}
+use Rattle.part.specs.declared.part.Part.{Part}
 use Rattle.part.proofs.Laws.{fit-part}
 use Rattle.tallies.specs.Memory.{fit_at, part_at}
 use Rattle.tallies.proofs.Parts.{lies-there, held-fit}
@@ -69,8 +65,8 @@ use Rattle.sheet.specs.Sheet.{sheet_of}
 use Rattle.sheet.specs.Report.{report_on}
 use Rattle.sheet.proofs.Lists.{apart_holds}
 use Rattle.sheet.proofs.Printed.{prints}
-use Rattle.claim.proofs.Done.{is_done, accepted-done}
-use Rattle.claim.proofs.Sheets.{chance_of, beside, aims_of, Page, Goes, sheet_part, zero_sheets, back-nothing}
+use Rattle.claim.proofs.RunningTicks.{accepted-in}
+use Rattle.claim.proofs.Sheets.{beside, aims_of, Page, Goes, sheet_part, zero_sheets}
 use Rattle.claim.proofs.Events.{Given, accepted_goes}
 
 -- ---- the settings records stay fit
@@ -94,27 +90,14 @@ record_stored ss g c s r low ok =
           (λ n. rw (n, get_or-set_other ss c k s blank (eqb-false k c n)) (r.targets k h));
     }
 
-none-recorded : (x : Effect) (target : ℤ) (ts : List ℤ) → (recorded x target ts).storing ≡ None
-unfolding recorded noted
-none-recorded x target ts = if_ind (λ (o : Out). o.storing ≡ None) (is_verdict x.outcome) (noted x target ts) (untallied x ts) (λ _. refl) (λ _. refl)
-
 stored-fit : (l : Line) (a : Settings) (ts : List ℤ) (ss : List Settings) (g : ℕ → ℤ) (e : Event) → Records ss g → event_ranged e ≡ true → event_agrees e ≡ true
     → Records (stored ss (accepted l a ts e).storing) (aims_of g (accepted l a ts e).storing)
 unfolding accepted event_ranged event_agrees
-stored-fit l a ts ss g (Sample s) r h k = rw (none-recorded (sampled l a s) a.target ts) r
-stored-fit l a ts ss g Run r h k = r
-stored-fit l a ts ss g Stop r h k = r
-stored-fit l a ts ss g Emergency r h k = r
-stored-fit l a ts ss g (Recall c) r h k = r
-stored-fit l a ts ss g Cancel r h k = r
-stored-fit l a ts ss g (ClearCode c) r h k = r
-stored-fit l a ts ss g ClearAll r h k = r
-stored-fit l a ts ss g ErrorReset r h k = r
-stored-fit l a ts ss g NoOperation r h k = r
-stored-fit l a ts ss g (Setup s) r h k = r
-stored-fit l a ts ss g (Store c s) r h k =
-    let ranged = both (leb c 99) (record_ranged s) h in
-    record_stored ss g c s r (leb-true c 99 ranged.0) (and_intro ranged.1 k)
+stored-fit l a ts ss g (Sample s) r h k = rw (none_recorded (sampled l a s) a.target ts) r
+stored-fit l a ts ss g (Store s) r h k =
+    let ranged = both (leb s.code 99) (record_ranged s.settings) h in
+    record_stored ss g s.code s.settings r (leb-true s.code 99 ranged.0) (and_intro ranged.1 k)
+stored-fit l a ts ss g e r h k = r
 
 -- ---- one event on a world
 
@@ -214,7 +197,7 @@ fresh_holds =
       pages = λ _. [];
       targets = λ _. pos 0;
       book = refl;
-      given = record { fit = fresh_fit; sheets = zero_sheets; back = back-nothing [] };
+      given = record { fit = fresh_fit; sheets = zero_sheets; back = tt };
       records = fresh_records;
       balance = refl;
       item = refl;
@@ -247,23 +230,20 @@ never-eight : (l : Line) (count : ℕ) (a : Settings) (ts : List ℤ) (e : Event
 unfolding refusal_of
 never-eight l count a ts e h = not_eight (faults_of l count a ts e) (rw h refl)
 
-pub no_refusal : (r : Reply) → is_done r ≡ true → refusal_in r ≡ 0
-no_refusal (Err r) h = absurd (subst T (sym h) tt)
-no_refusal (Ok d) h = refl
-
 -- the reply of an event has the refusal's number
 refusal_shown : (l : Line) (count : ℕ) (a : Settings) (ts : List ℤ) (e : Event) → refusal_in (step_of l count a ts e).reply ≡ number_in (refusal_of l count a ts e)
 refusal_shown l count a ts e =
     step_ind (λ (o : Out). refusal_in o.reply ≡ number_in (refusal_of l count a ts e)) l count a ts e
-    (λ y. rw y.passed (no_refusal (accepted l a ts e).reply (accepted-done l a ts e)))
+    (λ y. rw y.passed (accepted-in l count a ts e y))
     (λ _ h. rw h refl)
 
-cancel_answer : (l : Line) (count : ℕ) (a : Settings) (ts : List ℤ) → memory_sound l count a ts Cancel ≡ true → number_in (refusal_of l count a ts Cancel) ≡ (when chance_of l.undo then 0 else nothing_no)
+cancel_answer : (l : Line) (count : ℕ) (a : Settings) (ts : List ℤ) → memory_sound l count a ts Cancel ≡ true → number_in (refusal_of l count a ts Cancel) ≡ (when is_some l.undo then 0 else nothing_no)
 unfolding refusal_of event_ranged refused_running refused_in_emergency refused_paused event_agrees run_unsafe run_occupied nothing_to_cancel
 cancel_answer l count a ts h = rw h (by l.undo)
   where
-    by : (u : Undo) → number_in (when no_chance u then Some Nothing else None) ≡ (when chance_of u then 0 else nothing_no)
-    by u = by_cases (no_chance u) (λ y. rw y refl) (λ n. rw n refl)
+    by : (u : Option Part) → number_in (when is_none u then Some Nothing else None) ≡ (when is_some u then 0 else nothing_no)
+    by None = refl
+    by (Some q) = refl
 
 page_report : (p : List Verdict) → Page p → report_fit (tally_of_page p) ≡ true
 unfolding report_fit tally_of_page
@@ -282,7 +262,7 @@ sheet_printed w h code low =
     ∙ ap (λ (q : Part). Ok (sheet_of q (get_or ss code blank).target)) is
 
 -- the counts of a fit part add to n
-counts-add_up : (w : World) (h : Holds w) (code : ℕ) → code ≤ 99 → add_up (part_at w.state.tallies code).counts ≡ (part_at w.state.tallies code).tally.n
+counts-add_up : (w : World) (h : Holds w) (code : ℕ) → code ≤ 99 → add_up (part_at w.state.tallies code).classes ≡ (part_at w.state.tallies code).tally.n
 counts-add_up w h code low =
     let p = part_at w.state.tallies code in
     (fit-part p (held-fit w.state.tallies code (h.given.sheets.fit code low))).sum

@@ -23,7 +23,6 @@ use Rattle.line.specs.Step.{accepted, step_of}
 use Rattle.tally.specs.Tally.{tally_fit, has_room, takes, largest_with, smallest_with, counted_with, weighed_with, added}
 use Rattle.lists.specs.Counts.{add_up}
 use Rattle.part.specs.Class.{class_of}
-use Rattle.part.specs.Classes.{packed, counts_of}
 use Rattle.part.specs.Part.{part_fit, added_part, takes_in}
 use Rattle.tallies.specs.Memory.{part, tally_of, unsigned, part_of, numbers_fit, fit_at, with_part, zeros}
 use Rattle.device.specs.Sensor.{settled, sensor_fit}
@@ -40,6 +39,12 @@ use Rattle.event.specs.Sample.{sample_ranged, last_fit}
 use Rattle.event.specs.Event.{event_ranged, event_agrees}
 use Rattle.weight.specs.Mean.{nearest, rounded}
 
-pub examples : Example × WaitingExample
-unfolding run run_from is_running_tick is_counted added_up next_outcome outcome_of_box fresh_line busy conveyor_runs conveyor sorter_field last_fit sensor_fit error_known item_fit undo_fit bench_fit grosses_of keeping begun status_fit line_fit halted halting replied sorted_for error_for stopped_for given or_crash verdict_of judged step1 edge_made foreign_rises step2 step3 on_bench step4 step5 ticked weighed after_weighing step6 new_item box_taken detecting by_sensor by_hand step7 ninth_signal unless_ninth running_tick guarded from_step3 sampled ran stopping alarmed noted recorded code_cleared memory_sound lengths_wrong reads_record reads_tally refused_running refused_in_emergency refused_paused run_unsafe run_occupied nothing_to_cancel refusal_of input_of accepted step_of tally_fit has_room takes takes_at largest_with smallest_with counted_with weighed_with added add_up class_of packed counts_of part_fit added_part takes_in part tally_of unsigned part_of numbers_fit fit_at with_part zeros settled any_of all_of counted without without_first waits_of laid waiting is_empty is_full queue_ticked one_ends joined queue_fit full sorting sorter_ticked queued sorter_off sorter_fit ticked_as entered blocks on_bit all_ticked all_entered any_blocks any_sorting on_bits all_off all_fit any_pair each_pair signals_of carrying carried eight_carried ended_in due delays_fallen signalled foreign_ticked oldest_used no_signal foreign_fit marked first_off record_ranged limits_ordered grade_of sorter_ranged sorters_ranged setup_ranged edge_agrees masks_agree setup_agrees sample_ranged event_ranged event_agrees nearest rounded
+examples : Example × WaitingExample
+unfolding run run_from is_running_tick is_counted added_up next_outcome outcome_of_box fresh_line busy conveyor_runs conveyor sorter_field last_fit sensor_fit error_known item_fit undo_fit bench_fit grosses_of keeping begun status_fit line_fit halted halting replied sorted_for error_for stopped_for given or_crash verdict_of judged step1 edge_made foreign_rises step2 step3 on_bench step4 step5 ticked weighed after_weighing step6 new_item box_taken detecting by_sensor by_hand step7 ninth_signal unless_ninth running_tick guarded from_step3 sampled ran stopping alarmed noted recorded code_cleared memory_sound lengths_wrong reads_record reads_tally refused_running refused_in_emergency refused_paused run_unsafe run_occupied nothing_to_cancel refusal_of input_of accepted step_of tally_fit has_room takes takes_at largest_with smallest_with counted_with weighed_with added add_up class_of part_fit added_part takes_in part tally_of unsigned part_of numbers_fit fit_at with_part zeros settled any_of all_of counted without without_first waits_of laid waiting is_empty is_full queue_ticked one_ends joined queue_fit full sorting sorter_ticked queued sorter_off sorter_fit ticked_as entered blocks on_bit all_ticked all_entered any_blocks any_sorting on_bits all_off all_fit any_pair each_pair signals_of carrying carried eight_carried ended_in due delays_fallen signalled foreign_ticked oldest_used no_signal foreign_fit marked first_off record_ranged limits_ordered grade_of sorter_ranged sorters_ranged setup_ranged edge_agrees masks_agree setup_agrees sample_ranged event_ranged event_agrees nearest rounded
 examples = (refl, record { short = refl; waits = refl; ticks = refl; judged = refl })
+
+pub worked_example : Example
+worked_example = examples.0
+
+pub waiting_example : WaitingExample
+waiting_example = examples.1

@@ -1,12 +1,18 @@
 -- The boxes of one event: what was in hand and what was detected is judged, two-on, dismissed, abandoned or in hand after it. Assumes nothing.
-use mathlib.Core.Path.{◌≡◌, refl}
-use mathlib.Core.Bool.{◌&&◌, not}
+use mathlib.Core.Path.{◌≡◌, refl, sym, ◌∙◌}
+use mathlib.Core.Bool.{Bool, true, false, ◌&&◌, not}
 use Prim.Native.Nat.{ℕ, ◌+◌, ◌*◌}
 use native.Mathlib.Omega.{arith}
 use lib.Dec.{eqb}
+use borrow.Author.Tests.{eqb-true}
 use Rattle.laws.specs.Choice.{when◌then◌else◌, bit}
+use Rattle.laws.proofs.Tests.{by_cases, never}
 use Rattle.line.proofs.Moves.{Moves, still, judged, judged-next, dismissed, dismissed-next, two-on, abandoned, detected}
 use Rattle.book.specs.Boxes.{is_judged}
+
+-- a number of which a test says other than of k is not k
+pub apart : (p : ℕ → Bool) (o k : ℕ) → p k ≡ true → p o ≡ false → eqb o k ≡ false
+apart p o k t f = by_cases (eqb o k) (λ e. never (sym f ∙ rw (eqb-true o k e) t)) (λ e. e)
 
 abbrev is : ℕ → ℕ → ℕ
 is o k = bit (eqb o k)

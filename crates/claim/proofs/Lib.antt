@@ -1,8 +1,8 @@
 pub mod Level
-pub mod Done
+pub mod RunningTicks
 pub mod Sheets
 pub mod Events
-pub mod RunningTicks
+pub mod StatusRefusals
 pub mod Signals
 pub mod SortersApart
 pub mod BenchMode

@@ -1,33 +1,31 @@
 -- The tallies are those of the pages: kept by each event. Assumes nothing.
-use mathlib.Core.Path.{◌≡◌, refl, sym, ap, subst, ◌∙◌}
-use mathlib.Core.Bool.{Bool, true, false, not}
+use mathlib.Core.Path.{◌≡◌, refl, sym, ap, ◌∙◌}
+use mathlib.Core.Bool.{true, false}
 use mathlib.Core.List.{List, [], ◌∷◌}
 use Prim.Native.Nat.{ℕ, ◌≤◌}
 use native.Mathlib.Omega.{arith}
-use lib.Dec.{T, eqb, ltb}
+use lib.Dec.{eqb, ltb}
 use lib.IntN.{ℤ}
 use lib.ListN.{length}
-use Rattle.std.specs.Prelude.{Option, Some, None}
+use Rattle.std.specs.Prelude.{Option, Some, None, is_some, ⊤}
 use borrow.Author.Tests.{eqb-true, eqb-false, eq-eqb, leb-true, ltb-true}
-use Rattle.laws.specs.Choice.{when◌then◌else◌}
 use Rattle.laws.proofs.Tests.{if_ind, by_cases}
 use Rattle.event.specs.declared.Event.{Event}
 use Rattle.weight.specs.Weight.{is_weight}
-use Rattle.tally.specs.Tally.{has_room, is_verdict}
-use Rattle.part.specs.Part.{Part, part_fit, added_part}
-use Rattle.part.proofs.Laws.{fit-part, kept-counts}
+use Rattle.tally.specs.Tally.{has_room}
+use Rattle.verdict.specs.Verdict.{is_verdict}
+use Rattle.part.specs.Part.{part_fit, added_part}
+use Rattle.part.specs.declared.part.Part.{Part}
 use Rattle.tallies.specs.Memory.{part_numbers, part, part_of, part_at, part_at_fit, with_part, zeros, tallies_length}
 use Rattle.tallies.proofs.Parts.{length_kept, same_numbers, other-numbers, part-zeros, part_of-numbers, fit_same, fit-zeros, length_zeros, lies-there}
 use Rattle.line.specs.Line.{busy, with_undo}
 use Rattle.line.specs.Fit.{status_fit}
-use Rattle.undo.specs.Undo.{nothing, kept, no_chance, kept_part, undo_fit, takes_at}
+use Rattle.undo.specs.Undo.{undo_fit}
 use Rattle.undo.proofs.Laws.{taken_by-room}
-use Rattle.line.specs.Effect.{replied}
+use Rattle.line.specs.Effect.{Effect, replied}
 use Rattle.line.specs.Tallying.{Out, untallied, noted, recorded}
-use Rattle.undo.specs.declared.Undo.{Undo}
-use Rattle.line.specs.declared.stored.Stored.{Stored}
+use Rattle.event.specs.declared.Stored.{Stored}
 use Rattle.line.specs.declared.line.Line.{Line}
-use Rattle.line.specs.declared.effect.Effect.{Effect}
 use Rattle.line.proofs.Facts.{FitLine}
 use Rattle.book.specs.Book as book
 use Rattle.book.specs.Book.{Book, Verdict, Pages, turned, aimed, last_off, has_place, entered, tallied_by}
@@ -38,12 +36,9 @@ use Rattle.line.proofs.Moves.{Moves}
 use Rattle.line.proofs.Ticks.{Went, hand}
 use Rattle.book.proofs.Pages.{Fine, none, more, part-more, page_part_fit, page_room, part_none}
 
-abbrev pub chance_of : Undo → Bool
-chance_of u = not (no_chance u)
-
 -- the book beside a line, with these pages and targets
 abbrev pub beside : Line → Pages → (ℕ → ℤ) → Book
-beside l f g = record { code = l.code; pages = f; chance = chance_of l.undo; targets = g }
+beside l f g = record { code = l.code; pages = f; chance = is_some l.undo; targets = g }
 
 -- the targets with what an event stores
 abbrev pub aims_of : (ℕ → ℤ) → Option Stored → ℕ → ℤ
@@ -51,11 +46,9 @@ aims_of g None = g
 aims_of g (Some x) = aimed g x.code x.settings.target
 
 -- what a cancel would put back is the part without the last verdict
-abbrev pub Back : Undo → List Verdict → Type 0
-Back u p = no_chance u ≡ false → kept_part u ≡ part_of_page (last_off p)
-
-pub back-nothing : (p : List Verdict) → Back nothing p
-back-nothing p h = absurd (subst T h tt)
+abbrev pub Back : Option Part → List Verdict → Type 0
+Back None p = ⊤
+Back (Some q) p = q ≡ part_of_page (last_off p)
 
 pub record Page (p : List Verdict) : Type 0 where
   pub fine : Fine p
@@ -110,22 +103,16 @@ pub record Goes (l : Line) (f : Pages) (g : ℕ → ℤ) (e : Event) (o : Out) :
   pub tallied : tallied_in o.reply ≡ tallied_by (beside l f g) o.reply
   pub boxes : Moves (hand l) (detected_by o.reply) (outcome_of o.reply) (hand o.line)
 
-beside_same : (l k : Line) (f : Pages) (g : ℕ → ℤ) → k.code ≡ l.code → k.undo ≡ l.undo → beside l f g ≡ beside k f g
-beside_same l k f g c u = rw (c, u)
-
-back-same : (l k : Line) (f : Pages) → k.code ≡ l.code → k.undo ≡ l.undo → Back l.undo (f l.code) → Back k.undo (f k.code)
-back-same l k f c u b = rw (c, u) b
-
 -- an effect without a verdict, of an event that is no command to the book
 pub quiet : (l : Line) (ts : List ℤ) (f : Pages) (g : ℕ → ℤ) (e : Event) (x : Effect) → Went l x → Sheets ts f → Back l.undo (f l.code) → is_verdict x.outcome ≡ false → ((b : Book) → book.commanded b e ≡ b) → Goes l f g e (untallied x ts)
 unfolding book.fed replied tallied_by
 quiet l ts f g e x w s b v c =
     record {
       pages = f;
-      book = rw (v, c (beside l f g)) (beside_same l x.line f g w.code w.undo);
+      book = rw (v, c (beside l f g), w.code, w.undo);
       line = w.fit;
       sheets = s;
-      back = back-same l x.line f w.code w.undo b;
+      back = rw (w.code, w.undo) b;
       tallied = rw v;
       boxes = w.boxes;
     }
@@ -136,122 +123,55 @@ quiet l ts f g e x w s b v c =
 pub turned_same : (f : Pages) (c : ℕ) (p : List Verdict) → turned f c p c ≡ p
 turned_same f c p = rw (eq-eqb c c refl)
 
-pub with_undo_lem : (k : Line) (u : Undo) → FitLine k → undo_fit u ≡ true → FitLine (with_undo k u)
+pub with_undo_lem : (k : Line) (u : Option Part) → FitLine k → undo_fit u ≡ true → FitLine (with_undo k u)
 unfolding status_fit busy
-with_undo_lem k u f h =
-    record {
-      code = f.code;
-      setup = f.setup;
-      last = f.last;
-      sensor = f.sensor;
-      status = f.status;
-      sorters = f.sorters;
-      foreign = f.foreign;
-      item = f.item;
-      undo = h;
-      bench = f.bench;
-    }
+with_undo_lem k u f h = assumption (f, h)
 
--- the reply shows the effect
-shown : (x : Effect) (n : ℕ) (k : Line) {a : ℕ} → Moves a x.detected x.outcome (hand k) → Moves a (detected_by (replied x n)) (outcome_of (replied x n)) (hand k)
-unfolding replied
-shown x n k h = h
-
-shown-tallied : (x : Effect) (n : ℕ) → tallied_in (replied x n) ≡ n
-unfolding replied
-shown-tallied x n = refl
-
-pub nothing-fit : undo_fit nothing ≡ true
+pub none-fit : undo_fit None ≡ true
 unfolding undo_fit
-nothing-fit = refl
-
--- what is kept of a fit part is that part
-kept-is : (q : Part) → part_fit q ≡ true → kept_part (kept q) ≡ q
-kept-is q h = rw (kept-counts q (fit-part q h)) refl
-
-kept-fit : (q : Part) → part_fit q ≡ true → undo_fit (kept q) ≡ true
-unfolding undo_fit
-kept-fit q h = rw (kept-is q h) h
+none-fit = refl
 
 -- what a verdict is on a page
 abbrev verdict : Effect → ℤ → Verdict
 verdict x target = record { outcome = x.outcome; net = x.net; target = target }
 
--- the book of the line as it is after the effect enters the verdict
-entered-room : (k : Line) (f : Pages) (g : ℕ → ℤ) (e : Event) (x : Effect) (n : ℕ) → is_verdict x.outcome ≡ true → ltb (length (f k.code)) 999999 ≡ true
-    → book.fed (beside k f g) e (replied x n)
-    ≡ record { code = k.code; pages = turned f k.code (verdict x (g k.code) ∷ f k.code); chance = true; targets = g }
-unfolding book.fed replied entered has_place
-entered-room k f g e x n v p = rw (v, p)
-
-entered-full : (k : Line) (f : Pages) (g : ℕ → ℤ) (e : Event) (x : Effect) (n : ℕ) → is_verdict x.outcome ≡ true → ltb (length (f k.code)) 999999 ≡ false
-    → book.fed (beside k f g) e (replied x n) ≡ record { code = k.code; pages = f; chance = false; targets = g }
-unfolding book.fed replied entered has_place
-entered-full k f g e x n v p = rw (v, p)
-
-tallied_by_lem : (k : Line) (f : Pages) (g : ℕ → ℤ) (x : Effect) (n : ℕ) (place : Bool) → is_verdict x.outcome ≡ true → ltb (length (f k.code)) 999999 ≡ place
-    → tallied_by (beside k f g) (replied x n) ≡ (when place then 1 else 0)
-unfolding tallied_by replied has_place
-tallied_by_lem k f g x n place v p = rw (v, p)
-
--- a verdict as it is tallied, and given but not tallied
-abbrev tallied-out : Effect → ℤ → List ℤ → Part → Out
-tallied-out x target ts q =
-    record {
-      line = with_undo x.line (kept q);
-      storing = None;
-      tallies = with_part ts x.line.code (added_part q x.outcome x.net target);
-      reply = replied x 1;
-    }
-
-abbrev passed-out : Effect → List ℤ → Out
-passed-out x ts = record { line = with_undo x.line nothing; storing = None; tallies = ts; reply = replied x 0 }
-
-noted_by : (x : Effect) (target : ℤ) (ts : List ℤ) (b : Bool) → takes_at ts x.line.code x.outcome x.net target ≡ b
-    → noted x target ts ≡ (when b then tallied-out x target ts (part_at ts x.line.code) else passed-out x ts)
-unfolding noted
-noted_by x target ts true h = rw h refl
-noted_by x target ts false h = rw h refl
-
 verdict_goes : (l : Line) (ts : List ℤ) (f : Pages) (g : ℕ → ℤ) (e : Event) (x : Effect) (target : ℤ) → Went l x → Sheets ts f → is_verdict x.outcome ≡ true
     → is_weight target ≡ true → g x.line.code ≡ target → Goes l f g e (noted x target ts)
+unfolding noted replied book.fed entered has_place tallied_by undo_fit
 verdict_goes l ts f g e x target w s v aim aimed-at =
-    let k = x.line in
-    let c = k.code in
+    let c = x.line.code in
     let low : c ≤ 99 = leb-true c 99 w.fit.code in
     let p = f c in
     let q = part_at ts c in
-    let is : q ≡ part_of_page p = sheet_part ts f s c low in
-    let fits : part_fit q ≡ true = rw is (page_fits p (s.pages c)) in
     let put = verdict x target ∷ p in
-    let same : beside k f g ≡ beside l f g = sym (beside_same l k f g w.code w.undo) in
+    let is : q ≡ part_of_page p = sheet_part ts f s c low in
     let room : has_room q.tally ≡ ltb (length p) 999999 = ap (λ (r : Part). has_room r.tally) is ∙ page_room (s.pages c).fine in
     let takes = taken_by-room ts c x.outcome x.net target (lies-there ts c low s.len) (s.fit c low) v w.net aim in
-    rw (noted_by x target ts (has_room q.tally) takes)
-    (if_ind (Goes l f g e) (has_room q.tally) (tallied-out x target ts q) (passed-out x ts)
-    (λ h. let place = sym room ∙ h in
+    by_cases (has_room q.tally)
+    (λ h. let place : ltb (length p) 999999 ≡ true = sym room ∙ h in
     let page : Page put =
     record { fine = more (record { outcome = v; net = w.net }) (s.pages c).fine; few = omega (arith, ltb-true (length p) 999999 place) } in
-    record {
+    rw (takes ∙ h)
+    (record {
       pages = turned f c put;
-      book = subst (λ (b : Book). book.fed b e (replied x 1) ≡ beside (with_undo k (kept q)) (turned f c put) g) same
-          (entered-room k f g e x 1 v place ∙ ap (λ (t : ℤ). beside (with_undo k (kept q)) (turned f c (verdict x t ∷ p)) g) aimed-at);
-      line = with_undo_lem k (kept q) w.fit (kept-fit q fits);
+      book = rw (← w.code, v, place, aimed-at);
+      line = with_undo_lem x.line (Some q) w.fit (rw is (page_fits p (s.pages c)));
       sheets = put_sheet ts f c put (added_part q x.outcome x.net target) s low page
           (ap (λ (y : Part). added_part y x.outcome x.net target) is ∙ sym (part-more (verdict x target) p));
-      back = λ _. rw (turned_same f c put) (kept-is q fits ∙ is);
-      tallied = shown-tallied x 1 ∙ sym (subst (λ (b : Book). tallied_by b (replied x 1) ≡ 1) same (tallied_by_lem k f g x 1 true v place));
-      boxes = shown x 1 k w.boxes;
-    })
-    (λ h. let full = sym room ∙ h in
-    record {
+      back = rw (turned_same f c put) is;
+      tallied = rw (← w.code, v, place);
+      boxes = w.boxes;
+    }))
+    (λ h. let full : ltb (length p) 999999 ≡ false = sym room ∙ h in
+    rw (takes ∙ h)
+    (record {
       pages = f;
-      book = subst (λ (b : Book). book.fed b e (replied x 0) ≡ beside (with_undo k nothing) f g) same (entered-full k f g e x 0 v full);
-      line = with_undo_lem k nothing w.fit nothing-fit;
+      book = rw (← w.code, v, full);
+      line = with_undo_lem x.line None w.fit refl;
       sheets = s;
-      back = back-nothing p;
-      tallied = shown-tallied x 0 ∙ sym (subst (λ (b : Book). tallied_by b (replied x 0) ≡ 0) same (tallied_by_lem k f g x 0 false v full));
-      boxes = shown x 0 k w.boxes;
+      back = tt;
+      tallied = rw (← w.code, v, full);
+      boxes = w.boxes;
     }))
 
 -- a sample: with a verdict or without one; target is the active code's, in the book as in its record

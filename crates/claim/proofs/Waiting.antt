@@ -1,41 +1,35 @@
 -- No box is left waiting: the counted ticks of one event, and over every list a box's outcome on the last of them, not sooner where it is
 -- weighed, and its own. Assumes nothing.
-use mathlib.Core.Path.{◌≡◌, refl, sym, ◌∙◌}
+use mathlib.Core.Path.{◌≡◌, refl, ◌∙◌}
 use mathlib.Core.Logic.{◌≢◌}
 use mathlib.Core.Bool.{Bool, true, false, ◌&&◌, not, and-false}
 use mathlib.Core.List.{List, [], ◌∷◌}
 use Prim.Native.Nat.{ℕ, ◌+◌, ◌*◌, ◌≤◌}
 use native.Mathlib.Omega.{arith}
 use lib.Dec.{eqb}
-use lib.IntN.{ℤ}
-use lib.ListN.{length}
 use borrow.Author.Tests.{eqb-true, eqb-false}
 use Rattle.laws.specs.Choice.{bit}
-use Rattle.laws.proofs.Tests.{both, if_ind, by_cases, never}
+use Rattle.laws.proofs.Tests.{both, by_cases, never}
 use Rattle.settings.specs.declared.Settings.{Settings}
-use Rattle.event.specs.Event.{event_ranged}
 use Rattle.event.specs.declared.Sample as sample
 use Rattle.event.specs.declared.Event.{Event}
-use Rattle.event.specs.declared.Event.TheVariants.{Sample, Run, Stop, Emergency, Recall, Cancel, ClearCode, ClearAll, ErrorReset, NoOperation, Setup, Store}
-use Rattle.event.proofs.Facts.{InRange, in_range}
+use Rattle.event.proofs.Facts.{InRange}
 use Rattle.mask.specs.Bits.{lowest_off}
-use Rattle.refusal.proofs.Status.{setup-stopped}
-use Rattle.status.specs.Status.{stopped, running, emergency}
+use Rattle.status.specs.Status.{running}
 use Rattle.item.specs.Item.{in_hand}
 use Rattle.item.proofs.Left.{some_left}
-use Rattle.line.specs.Line.{is_running, busy}
-use Rattle.line.specs.Effect.{halting, replied}
-use Rattle.line.specs.Sample.{step1, running_tick, sampled, tick_of}
-use Rattle.line.specs.Command.{ran, stopping, alarmed}
-use Rattle.line.specs.Tallying.{Out, recorded, code_cleared}
+use Rattle.line.specs.Line.{is_running}
+use Rattle.line.specs.Effect.{Effect, replied}
+use Rattle.line.specs.Sample.{step1, running_tick, tick_of}
+use Rattle.line.specs.Command.{ran}
+use Rattle.line.specs.Tallying.{Out, recorded}
 use Rattle.line.specs.State.{active_of}
-use Rattle.line.specs.Step.{accepted, step_of, out_on}
+use Rattle.line.specs.Step.{out_on}
 use Rattle.line.specs.declared.line.Line.{Line}
-use Rattle.line.specs.declared.effect.Effect.{Effect}
-use Rattle.line.proofs.Accepted.{Accepted, step_ind, numbered}
+use Rattle.line.proofs.Accepted.{numbered}
 use Rattle.line.proofs.Facts.{FitLine}
 use Rattle.line.proofs.Keeps.{error-none}
-use Rattle.line.proofs.Left.{left_on, is_ninth, Times, Timed, Ticked, quiet-times, halting-times, tick-times}
+use Rattle.line.proofs.Left.{left_on, is_ninth, Times, Timed, Ticked, quiet-times, tick-times}
 use Rattle.line.proofs.Ticks.{hand}
 use Rattle.book.specs.Book.{Turn}
 use Rattle.book.specs.Boxes.{detected_by, outcome_of, sum_over, detected_in, is_judged}
@@ -43,9 +37,9 @@ use Rattle.claim.specs.Run.{World, answer, after, run_from, run}
 use Rattle.claim.specs.RunningTick.{is_running_tick}
 use Rattle.claim.specs.Signals.{added_up}
 use Rattle.claim.specs.Waiting.{is_counted, ticks_in, next_outcome, outcome_of_box, is_weighed, settled_in, Served, NoBoxWaits}
-use Rattle.claim.proofs.Level.{Level, level}
-use Rattle.claim.proofs.Events.{stopped-empty, status-known}
-use Rattle.claim.proofs.RunningTicks.{ticks, Shows, recorded-shows, tick_told, quiet_ind}
+use Rattle.claim.proofs.Level.{apart, Level, level}
+use Rattle.claim.proofs.Signals.{bit-most}
+use Rattle.claim.proofs.RunningTicks.{ticks, Shows, recorded-shows, from-step1, step_told}
 use Rattle.claim.proofs.Every.{Holds, answer_goes, holds_after, holds}
 
 -- ---- one event
@@ -65,83 +59,28 @@ shown l t x o s w =
     }
 
 -- seen from step 1, which leaves item and setup
-from-step1 : (l : Line) (s : sample.Sample) (t : ℕ) (x : Effect) → Timed (step1 l s) t x → Timed l t x
-unfolding step1
-from-step1 l s t x w = record { falls = w.falls; last = w.last; begins = w.begins }
-
 not_ninth : (l : Line) → FitLine l → is_running l ≡ true → is_ninth l.error ≡ false
 not_ninth l f r = rw (error-none l f.status (eqb-true l.status running r)) refl
 
 -- a sample that is a running tick
-tick-counted : (l : Line) (a : Settings) (s : sample.Sample) → FitLine l → InRange s → ticks l s ≡ true → Ticked l (sampled l a s)
+tick-counted : (l : Line) (a : Settings) (s : sample.Sample) → FitLine l → InRange s → ticks l s ≡ true → Ticked l (running_tick (step1 l s) (tick_of l a s))
 unfolding step1
 tick-counted l a s f g t =
     let b = both (eqb s.emergency 0 && is_running l) (eqb (lowest_off l.setup.need s.safety) 0) t in
     let r = (both (eqb s.emergency 0) (is_running l) b.0).1 in
-    rw (tick_told l a s t)
-    (from-step1 l s _ (running_tick (step1 l s) (tick_of l a s)) (tick-times (step1 l s) (tick_of l a s) f.item g.gross (not_ninth l f r)))
+    from-step1 l s _ (running_tick (step1 l s) (tick_of l a s)) (tick-times (step1 l s) (tick_of l a s) f.item g.gross (not_ninth l f r))
 
--- one that is none
-quiet-counted : (l : Line) (a : Settings) (s : sample.Sample) → InRange s → ticks l s ≡ false → Timed l 0 (sampled l a s)
-unfolding step1
-quiet-counted l a s g t =
-    quiet_ind (Timed l 0) l a s g.emergency t
-    (λ status. from-step1 l s 0 (halting (step1 l s) status) (halting-times (step1 l s) status))
-    (quiet-times l _ refl refl)
-    (quiet-times l _ refl refl)
-
-sample-counted : (l : Line) (a : Settings) (ts : List ℤ) (s : sample.Sample) → FitLine l → InRange s → Counted l (Sample s) (recorded (sampled l a s) a.target ts)
-unfolding is_counted is_running_tick
-sample-counted l a ts s f g =
-    let x = sampled l a s in
-    let o = recorded x a.target ts in
-    let shows = recorded-shows x a.target ts in
-    by_cases (ticks l s)
-    (λ t. rw (shows.accepted, t, shows.error) (shown l _ x o shows (tick-counted l a s f g t)))
-    (λ t. rw (shows.accepted, t) (shown l 0 x o shows (quiet-counted l a s g t)))
-
-stop_times : (l : Line) → Timed l 0 (stopping l)
-unfolding stopping
-stop_times l =
-    if_ind (Timed l 0) (is_running l && busy l) _ _ (λ _. quiet-times l _ refl refl)
-    (λ _. if_ind (Timed l 0) (eqb l.status stopped) _ _ (λ _. quiet-times l l refl refl) (λ _. halting-times l stopped))
-
-cleared-times : (l : Line) (c : ℕ) → Times l 0 (code_cleared l c) 0 0
-unfolding code_cleared
-cleared-times l c =
-    if_ind (λ (k : Line). Times l 0 k 0 0) (eqb c l.code) _ _ (λ _. quiet-times l _ refl refl) (λ _. quiet-times l l refl refl)
-
--- nothing in hand and nothing detected
-empty-times : (l k : Line) → in_hand l.item ≡ false → Times l 0 k 0 0
-empty-times l k n =
-    record { falls = λ i _. never (sym n ∙ i); last = λ i _ _ _. never (sym n ∙ i); begins = λ d _. absurd (omega (arith, d)) }
-
-accepted-counted : (l : Line) (a : Settings) (ts : List ℤ) (e : Event) (count : ℕ) → FitLine l → Accepted l count a ts e → Counted l e (accepted l a ts e)
-unfolding accepted event_ranged is_counted is_running_tick replied ran alarmed
-accepted-counted l a ts (Sample s) count f h = sample-counted l a ts s f (in_range s h.ranged)
-accepted-counted l a ts Run count f h = quiet-times l _ refl refl
-accepted-counted l a ts Stop count f h = stop_times l
-accepted-counted l a ts Emergency count f h = halting-times l emergency
-accepted-counted l a ts (Recall c) count f h = quiet-times l _ refl refl
-accepted-counted l a ts Cancel count f h = quiet-times l _ refl refl
-accepted-counted l a ts (ClearCode c) count f h = cleared-times l c
-accepted-counted l a ts ClearAll count f h = quiet-times l _ refl refl
-accepted-counted l a ts ErrorReset count f h = quiet-times l _ refl refl
-accepted-counted l a ts NoOperation count f h = quiet-times l l refl refl
-accepted-counted l a ts (Setup s) count f h =
-    empty-times l _ (stopped-empty l f.status (setup-stopped l.status s (status-known l f.status) h.running h.emergency h.paused))
-accepted-counted l a ts (Store c s) count f h = quiet-times l l refl refl
-
-answer-counted : (w : World) (e : Event) → Holds w → Counted w.state.line e (out_on w.state e)
-unfolding is_counted is_running_tick
-answer-counted w e h =
+answer-counted : (w : World) (e : Event) → Counted w.state.line e (out_on w.state e)
+unfolding is_counted is_running_tick replied ran
+answer-counted w e =
     let l = w.state.line in
-    let ts = w.state.tallies in
-    let a = active_of w.state in
-    let count = length w.state.settings in
-    step_ind (Counted l e) l count a ts e
-    (λ y. accepted-counted l a ts e count h.given.fit y)
-    (λ r _. rw (numbered r) (quiet-times l l refl refl))
+    step_told (Counted l) w.state e
+    (λ s f g t. let x = running_tick (step1 l s) (tick_of l (active_of w.state) s) in
+    let shows = recorded-shows x (active_of w.state).target w.state.tallies in
+    rw (shows.accepted, t, shows.error) (shown l _ x (recorded x (active_of w.state).target w.state.tallies) shows (tick-counted l (active_of w.state) s f g t)))
+    (λ _. quiet-times l _ refl refl)
+    (λ o _ c. rw c.tick c.times)
+    (λ r. rw (numbered r) (quiet-times l l refl refl))
 
 -- ---- the boxes that have their outcome
 
@@ -164,10 +103,6 @@ unfolding run_from
 settled_grows w [] = omega arith
 settled_grows w (e ∷ es) = omega (arith, settled_grows (after w e) es, settled-more (turn w e) w.history)
 
-bit-most : (b : Bool) → bit b ≤ 1
-bit-most true = omega arith
-bit-most false = omega arith
-
 bit-one : (b : Bool) → 1 ≤ bit b → b ≡ true
 bit-one true h = refl
 bit-one false h = absurd (omega arith)
@@ -184,7 +119,7 @@ settles {d} {o} {z} v n =
 
 -- a weighed outcome is none of these
 not_weighed : (o k : ℕ) → is_weighed k ≡ false → is_weighed o ≡ true → eqb o k ≡ false
-not_weighed o k n h = by_cases (eqb o k) (λ t. never (sym n ∙ rw (eqb-true o k t) at h)) (λ t. t)
+not_weighed o k n h = apart (λ v. not (is_weighed v)) o k (rw n refl) (rw h refl)
 
 -- a box in hand and the events to come
 record Follows (w : World) (es : List Event) : Type 0 where
@@ -201,7 +136,7 @@ none-follows :
 unfolding added_up next_outcome run_from
 none-follows w e es h i y d r =
     let z = eqb-true (outcome_of (answer w e).reply) 0 y in
-    let falls = (answer-counted w e h).falls i z in
+    let falls = (answer-counted w e).falls i z in
     let zero : settled_by (outcome_of (answer w e).reply) ≡ 0 = rw z refl in
     let settled : settled_in (after w e).history ≡ settled_in w.history = omega (arith, settled-more (turn w e) w.history, zero) in
     let detected : detected_in (after w e).history ≡ detected_in w.history = omega (arith, detected-more (turn w e) w.history, d) in
@@ -223,7 +158,7 @@ one_follows w e es h i n s =
     record {
       limit = λ _. rw n (eqb-false o 0 n);
       sooner = λ b. let wo : is_weighed o ≡ true = rw n at b in
-          omega (arith, (answer-counted w e h).last i n (not_weighed o 7 refl wo) (not_weighed o 10 refl wo));
+          omega (arith, (answer-counted w e).last i n (not_weighed o 7 refl wo) (not_weighed o 10 refl wo));
       none = λ b. absurd (eqb-false o 0 n (rw n at b));
       some = λ _. omega (arith, s, settled-more (turn w e) w.history, settled_grows (after w e) es);
     }
@@ -254,7 +189,7 @@ unfolding outcome_of_box
 first-served w e es h d n i =
     let next = holds_after w e h in
     let r = follows (after w e) es next (bit-one _ (omega (arith, i))) in
-    let begins = (answer-counted w e h).begins d n in
+    let begins = (answer-counted w e).begins d n in
     let one : detected_in (after w e).history ≡ settled_in (after w e).history + 1 = omega (arith, next.balance, next.item, i) in
     record {
       limit = λ b. rw n (r.limit (omega (arith, b, begins)));
@@ -277,8 +212,9 @@ second-served w e es h y i =
       settled = λ _. omega (arith, next.balance, next.item, i, settled_grows (after w e) es);
     }
 
-pub no_box_waits : NoBoxWaits
-no_box_waits events before e between rest _ d =
+-- wherever in a list of events its detection stands
+pub box_served : (before : List Event) (e : Event) (between : List Event) → detected_by (answer (run before) e).reply ≡ 1 → Served (run before) e between
+box_served before e between d =
     let w = run before in
     let o = outcome_of (answer w e).reply in
     let h = holds before in
@@ -286,3 +222,6 @@ no_box_waits events before e between rest _ d =
     by_cases (eqb o 7)
     (λ y. second-served w e between h y (rw y at last))
     (λ n. first-served w e between h d n (rw n at last))
+
+pub no_box_waits : NoBoxWaits
+no_box_waits events before e between rest _ d = box_served before e between d

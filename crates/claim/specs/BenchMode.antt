@@ -2,6 +2,7 @@
 -- an event, the event and its reply.
 use Rattle.std.specs.Prelude.{◌≡◌, Bool, true, false, ◌&&◌, ◌||◌, List, [], ◌∷◌, eqb}
 use Rattle.std.specs.Int.Signed.{le_z}
+use Rattle.verdict.specs.Verdict as verdict
 use Rattle.laws.specs.Choice.{within}
 use Rattle.settings.specs.declared.Settings.{Settings}
 use Rattle.event.specs.Kind.{is_run, of_sample}
@@ -33,7 +34,7 @@ armed_in w (e ∷ es) = armed_by w.state.line (active_of w.state) e (answer w e)
 
 pub record BenchMode : Type 0 where
   -- "two-on cannot occur": a reply with outcome 7 comes only from a line in mode 1 or 2
-  pub alone : (events : List Event) (e : Event) → outcome_of (answer (run events) e).reply ≡ 7 → within 1 2 (run events).state.line.setup.mode ≡ true
+  pub alone : (events : List Event) (e : Event) → outcome_of (answer (run events) e).reply ≡ verdict.two_on → within 1 2 (run events).state.line.setup.mode ≡ true
   -- between two detections in mode 4 there is an arming: a box that lies still under an unchanged nearzero is weighed once
   pub once :
       (events between : List Event) (first second : Event)

@@ -1,5 +1,6 @@
 -- Demand 3, "one claim over the whole list": `Claim` is what `claim::ledger` ensures.
 use Rattle.std.specs.Prelude.{ℕ, ◌+◌, ◌*◌, ◌≤◌, ◌≡◌, ◌≢◌, List, get_or, Ok, Err}
+use Rattle.verdict.specs.Verdict as verdict
 use Rattle.laws.specs.Choice.{when◌then◌else◌, bit}
 use Rattle.settings.specs.Settings.{last_code, blank}
 use Rattle.event.specs.declared.Event.{Event}
@@ -31,11 +32,11 @@ pub record Stands (w : World) : Type 0 where
   -- "each count is that of the standing graded verdicts in its class"
   pub tallies : (code : ℕ) → code ≤ last_code → part w.state.tallies code ≡ part_numbers (part_of_page ((book_of w.history).pages code))
   -- "The 21 counts add to n after every list of demand 3"
-  pub classes : (code : ℕ) → code ≤ last_code → add_up (part_at w.state.tallies code).counts ≡ (part_at w.state.tallies code).tally.n
+  pub classes : (code : ℕ) → code ≤ last_code → add_up (part_at w.state.tallies code).classes ≡ (part_at w.state.tallies code).tally.n
   -- "For demand 3, over the replies": detected = judged + two-on + dismissed + abandoned + in hand
   pub balance :
       detected_in w.history
-      ≡ judged_in w.history + 2 * outcomes_in 7 w.history + outcomes_in 9 w.history + outcomes_in 10 w.history + in_hand_after w.history
+      ≡ judged_in w.history + 2 * outcomes_in verdict.two_on w.history + outcomes_in verdict.dismissed w.history + outcomes_in verdict.abandoned w.history + in_hand_after w.history
   -- "the line's item is none exactly at 0"
   pub item : bit (in_hand w.state.line.item) ≡ in_hand_after w.history
   -- "Tallied is 1 exactly when a verdict was put on a page"

@@ -1,5 +1,6 @@
 -- 01, "Text lines": the worked example as events and replies, with each of T-01's six sorters set as 01 sets its one.
-use Rattle.std.specs.Prelude.{ℕ, ◌≡◌, List, [], ◌∷◌, map, ℤ, pos, Ok, Err}
+use Rattle.std.specs.Prelude.{ℕ, ◌≡◌, List, [], ◌∷◌, map, replicate, ℤ, pos, Ok, Err}
+use Rattle.event.specs.Setup.{sorter_count}
 use Rattle.event.specs.declared.SorterSetup.{SorterSetup}
 use Rattle.event.specs.declared.Event.{Event}
 use Rattle.event.specs.declared.Event.TheVariants.{Sample, Run, ClearCode, Setup, Store}
@@ -20,16 +21,11 @@ events =
       tw = 0;
       ta = 2;
       tf = 0;
-      sorter1 = sorter;
-      sorter2 = sorter;
-      sorter3 = sorter;
-      sorter4 = sorter;
-      sorter5 = sorter;
-      sorter6 = sorter;
+      sorters = replicate sorter_count sorter;
       stop = 0;
       need = 0;
     })
-    ∷ Store 0 (record { target = pos 1000; lolo = pos 900; lo = pos 990; hi = pos 1010; hihi = pos 1100; nearzero = pos 100; tare = pos 0 })
+    ∷ Store (record { code = 0; settings = record { target = pos 1000; lolo = pos 900; lo = pos 990; hi = pos 1010; hihi = pos 1100; nearzero = pos 100; tare = pos 0 } })
     ∷ Run
     ∷ Sample (record { gross = pos 500; sensor = 1; emergency = 0; safety = 255; foreign = 0 })
     ∷ Sample (record { gross = pos 1003; sensor = 1; emergency = 0; safety = 255; foreign = 0 })

@@ -1,6 +1,7 @@
 -- 02, T-04 "Detector further up the belt": what becomes of the foreign signals. What an event takes and uses up is told from
 -- the line before it, the event and its reply.
 use Rattle.std.specs.Prelude.{ℕ, ◌+◌, ◌≤◌, ◌≡◌, Bool, true, false, ◌&&◌, ◌||◌, not, List, [], ◌∷◌, eqb}
+use Rattle.verdict.specs.Verdict as verdict
 use Rattle.laws.specs.Choice.{bit}
 use Rattle.queue.specs.Queue.{places}
 use Rattle.detector.specs.Foreign.{carried, eight_carried, due, foreign_ticked}
@@ -26,7 +27,7 @@ ended_at l e = of_sample (λ s. due (foreign_ticked l.foreign (foreign_rises l s
 
 -- used up by "A foreign verdict .., also where it becomes crash": outcome 6, or 8 with an ended signal after step 5
 unfoldable pub used_up_by : Line → Event → Reply → ℕ
-used_up_by l e r = bit (eqb (outcome_of r) 6 || eqb (outcome_of r) 8 && ended_at l e)
+used_up_by l e r = bit (eqb (outcome_of r) verdict.foreign || eqb (outcome_of r) verdict.crash && ended_at l e)
 
 -- such a number of each event of a list, added up
 unfoldable pub added_up : (Line → Event → Reply → ℕ) → World → List Event → ℕ

@@ -5,7 +5,7 @@ use Rattle.laws.specs.Choice.{when◌then◌else◌}
 use Rattle.queue.specs.Queue.{waits_of}
 use Rattle.device.specs.Sorter.{sorter_off}
 use Rattle.device.specs.declared.sorter.Sorter.{Sorter}
-use Rattle.event.specs.Setup.{fresh_sorter, sorter_setups, sorter_count}
+use Rattle.event.specs.Setup.{fresh_sorter, sorter_count}
 use Rattle.event.specs.declared.SorterSetup.{SorterSetup}
 use Rattle.event.specs.declared.Event.{Event}
 use Rattle.status.specs.Status.{stopped, emergency}
@@ -33,7 +33,7 @@ abbrev pub sorter_of : Line → ℕ → Sorter
 sorter_of l k = get_or l.sorters k sorter_off
 
 abbrev pub set_of : Line → ℕ → SorterSetup
-set_of l k = get_or (sorter_setups l.setup) k fresh_sorter
+set_of l k = get_or l.setup.sorters k fresh_sorter
 
 -- the same waits in the queue and the same on-time: what stands behind the waits is not read
 pub record SameSorter (s t : Sorter) : Type 0 where

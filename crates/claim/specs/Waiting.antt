@@ -1,5 +1,6 @@
 -- 02, T-14 "No box left waiting": `NoBoxWaits` is what `claim::no_box_waits` ensures.
 use Rattle.std.specs.Prelude.{ℕ, ◌+◌, ◌*◌, ◌≤◌, ◌≡◌, ◌≢◌, Bool, true, ◌&&◌, ◌||◌, not, List, [], ◌∷◌, ◌++◌, eqb, Ok, Err}
+use Rattle.verdict.specs.Verdict as verdict
 use Rattle.laws.specs.Choice.{when◌then◌else◌, within, bit}
 use Rattle.status.specs.Status.{ninth_error}
 use Rattle.event.specs.Reply.{Reply, no_error}
@@ -32,15 +33,15 @@ next_outcome w (e ∷ es) =
 -- the outcome of the box that e detects on w, once the events es have come; 0 while it has none. The second box of a two-on verdict
 -- has it in its own reply; any other outcome there is that of the box before it.
 unfoldable pub outcome_of_box : World → Event → List Event → ℕ
-outcome_of_box w e es = when eqb (outcome_of (answer w e).reply) 7 then 7 else next_outcome (after w e) es
+outcome_of_box w e es = when eqb (outcome_of (answer w e).reply) verdict.two_on then verdict.two_on else next_outcome (after w e) es
 
 -- a grade, foreign, crash or dismissed: what comes of a box's weight, and not of the next box, a stop or an emergency
 abbrev pub is_weighed : ℕ → Bool
-is_weighed o = within 1 6 o || eqb o 8 || eqb o 9
+is_weighed o = within verdict.lolo verdict.foreign o || eqb o verdict.crash || eqb o verdict.dismissed
 
 -- demand 3's sum without in hand: how many boxes have their outcome
 abbrev pub settled_in : List Turn → ℕ
-settled_in h = judged_in h + 2 * outcomes_in 7 h + outcomes_in 9 h + outcomes_in 10 h
+settled_in h = judged_in h + 2 * outcomes_in verdict.two_on h + outcomes_in verdict.dismissed h + outcomes_in verdict.abandoned h
 
 -- "tw + ta running ticks .., with the tw and ta in force at detection": those of the line that the detecting event finds
 abbrev pub ticks_due : Line → ℕ

@@ -1,6 +1,8 @@
 -- 02, T-14: a box with tw 1 and ta 2 over two pauses, a refused sample and a tick that error 7 ended. It has its outcome on the third
 -- counted tick, and none before.
-use Rattle.std.specs.Prelude.{ℕ, ◌≡◌, List, [], ◌∷◌, ◌++◌, pos}
+use Rattle.std.specs.Prelude.{ℕ, ◌≡◌, List, [], ◌∷◌, ◌++◌, replicate, pos}
+use Rattle.verdict.specs.Verdict as verdict
+use Rattle.event.specs.Setup.{sorter_count}
 use Rattle.event.specs.declared.SorterSetup.{SorterSetup}
 use Rattle.event.specs.declared.Event.{Event}
 use Rattle.event.specs.declared.Event.TheVariants.{Sample, Run, Stop, Setup, Store}
@@ -29,16 +31,11 @@ before =
       tw = 1;
       ta = 2;
       tf = 9999;
-      sorter1 = sorter;
-      sorter2 = sorter;
-      sorter3 = sorter;
-      sorter4 = sorter;
-      sorter5 = sorter;
-      sorter6 = sorter;
+      sorters = replicate sorter_count sorter;
       stop = 0;
       need = 1;
     })
-    ∷ Store 0 (record { target = pos 1000; lolo = pos 900; lo = pos 990; hi = pos 1010; hihi = pos 1100; nearzero = pos 100; tare = pos 0 })
+    ∷ Store (record { code = 0; settings = record { target = pos 1000; lolo = pos 900; lo = pos 990; hi = pos 1010; hihi = pos 1100; nearzero = pos 100; tare = pos 0 } })
     ∷ Run
     ∷ signal (signal (signal (signal (signal (signal (signal (signal [])))))))
 
@@ -67,4 +64,4 @@ pub record WaitingExample : Type 0 where
   pub short : ticks_in (after (run before) detection) between ≡ 2
   pub waits : outcome_of_box (run before) detection between ≡ 0
   pub ticks : ticks_in (after (run before) detection) (between ++ third ∷ []) ≡ 3
-  pub judged : outcome_of_box (run before) detection (between ++ third ∷ []) ≡ 3
+  pub judged : outcome_of_box (run before) detection (between ++ third ∷ []) ≡ verdict.ok

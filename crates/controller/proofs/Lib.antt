@@ -1,2 +1,2 @@
-pub mod Behind
 pub mod Lines
+pub mod Behind

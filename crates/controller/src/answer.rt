@@ -1,10 +1,11 @@
-// Answers in a lent buffer, one behind the other: each goes in from `at` on, and says where it ends.
-ghost use Rattle.std.specs.Prelude.{◌+◌, ◌≤◌, ◌≡◌, Some, length};
+// Answers at the front of a lent buffer: each gives its length.
+ghost use Rattle.std.specs.Prelude.{◌≤◌, ◌≡◌, Some, length};
 ghost use Rattle.print.specs.Reply.{reply_text};
-ghost use Rattle.print.specs.Sheet.{sheet_text};
-ghost use Rattle.controller.specs.Answer.{answer_room, no_room, refused_by, report_answer, text_refusal, refused_answer, put_at};
+ghost use Rattle.print.specs.Written.{put_text};
+ghost use Rattle.controller.specs.Answer.{answer_room, no_room, refused_by, report_answer, text_refusal, refused_answer};
 
-use event::{Refused, Reply};
+use event::Refused;
+use print::{reply_line, sheet_lines};
 use refusal::Refusal;
 use sheet::Sheet;
 
@@ -22,45 +23,27 @@ pub fn no_room(length: usize, at: usize) -> bool
     last < at
 }
 
-pub(crate) fn put_reply(out: &mut [u8], at: usize, r: Reply) -> usize
-    requires { at + answer_room ≤ length out.old }
-    ensures end { result ≡ at + length (reply_text r) }
-    ensures output { out.new ≡ put_at at (reply_text r) out.old }
-{
-    let n = print::reply_line(&mut out[at..], r);
-    at + n
-}
-
-fn put_sheet(out: &mut [u8], at: usize, code: u64, s: Sheet) -> usize
-    requires { at + answer_room ≤ length out.old }
-    ensures end { result ≡ at + length (sheet_text code s) }
-    ensures output { out.new ≡ put_at at (sheet_text code s) out.old }
-{
-    let n = print::sheet_lines(&mut out[at..], code, s);
-    at + n
-}
-
-// The refusal of a report, or of text that is none.
-fn put_refusal(out: &mut [u8], at: usize, r: Refusal) -> usize
-    requires { at + answer_room ≤ length out.old }
-    ensures end { result ≡ at + length (reply_text (refused_by r)) }
-    ensures output { out.new ≡ put_at at (reply_text (refused_by r)) out.old }
+// The refusal of a report, or of text that is none, by its row of the table.
+fn put_refusal(out: &mut [u8], r: Refusal) -> usize
+    requires { answer_room ≤ length out.old }
+    ensures length { result ≡ length (reply_text (refused_by r)) }
+    ensures output { out.new ≡ put_text (reply_text (refused_by r)) out.old }
 {
     let refused = Refused {
         number: r.number(),
         input: 0,
     };
-    put_reply(out, at, Err(refused))
+    reply_line(out, Err(refused))
 }
 
-pub(crate) fn put_report(out: &mut [u8], at: usize, code: u64, r: Result<Sheet, Refusal>) -> usize
-    requires { at + answer_room ≤ length out.old }
-    ensures end { result ≡ at + length (report_answer code r) }
-    ensures output { out.new ≡ put_at at (report_answer code r) out.old }
+pub(crate) fn put_report(out: &mut [u8], code: u64, r: Result<Sheet, Refusal>) -> usize
+    requires { answer_room ≤ length out.old }
+    ensures length { result ≡ length (report_answer code r) }
+    ensures output { out.new ≡ put_text (report_answer code r) out.old }
 {
     match r {
-        Ok(sheet) => put_sheet(out, at, code, sheet),
-        Err(refusal) => put_refusal(out, at, refusal),
+        Ok(sheet) => sheet_lines(out, code, sheet),
+        Err(refusal) => put_refusal(out, refusal),
     }
 }
 
@@ -75,10 +58,10 @@ fn refusal_of_text(count: usize, tallies: &[i64]) -> Refusal
 }
 
 // The refusal of text that is no event and no report.
-pub(crate) fn put_refused(out: &mut [u8], at: usize, count: usize, tallies: &[i64]) -> usize
-    requires { at + answer_room ≤ length out.old }
-    ensures end { result ≡ at + length (refused_answer count tallies.now) }
-    ensures output { out.new ≡ put_at at (refused_answer count tallies.now) out.old }
+pub(crate) fn put_refused(out: &mut [u8], count: usize, tallies: &[i64]) -> usize
+    requires { answer_room ≤ length out.old }
+    ensures length { result ≡ length (refused_answer count tallies.now) }
+    ensures output { out.new ≡ put_text (refused_answer count tallies.now) out.old }
 {
-    put_refusal(out, at, refusal_of_text(count, tallies))
+    put_refusal(out, refusal_of_text(count, tallies))
 }

@@ -1,23 +1,22 @@
 // The controller of a belt checkweigher.
 //
-// A `Line` is the belt's state: an event takes it by value and hands back the next one. The caller owns two memories and
-// lends them to each call: the settings, a hundred records, one for each code, and the tallies, 3,400 numbers, 34 for
-// each code: its tally and its 21 class counts. Fresh memory is all zeros.
+// A `Line` is the belt's state. The caller owns it and two memories, and lends all three to each call: the settings, a
+// hundred records, one for each code, and the tallies, 3,400 numbers, 34 for each code: its tally and its 21 class counts.
+// Fresh memory is all zeros.
 //
 //     let mut records = [Settings::blank(); 100];
 //     let mut tallies = [0i64; 3400];
-//     let line = Line::fresh();
+//     let mut line = Line::fresh();
 //
-// `Line::apply` is one event: a sample of the sensors every 10 ms, a command, a setup or a store.
+// `Line::advance` is one event: a sample of the sensors every 10 ms, a command, a setup or a store.
 //
-//     let step = line.apply(&mut records, &mut tallies, Event::Run);
-//     let line = step.line;
-//     match step.reply {
+//     match line.advance(&mut records, &mut tallies, Event::Run) {
 //         Ok(done) => ..             what the line shows now, and what the event did
 //         Err(refused) => ..         nothing has changed
 //     }
 //
-// `step.storing` is the settings record that the event replaced, if any. A `Plant` is a line that owns its records:
+// `Line::apply` does the same on a line that it takes by value. Its `Step` has the next line, the reply, and as `storing`
+// the settings record that the event replaced, if any. A `Plant` is a line that owns its records:
 //
 //     let turned = Plant::fresh().turn(&mut tallies, Event::Run);
 //
@@ -31,92 +30,60 @@
 //
 // `serve` is either as a line of text, answered as text behind what stands in `out` up to `at`. Text that is neither is
 // refused 1. No answer is longer than `ANSWER_ROOM` bytes; where `out` has less behind `at` (`no_room`), nothing is done and
-// nothing has changed: `full` is 1, and the caller calls again with room.
+// nothing has changed: it hands back `None`, and the caller calls again with room. Else it hands back where the answers end.
 //
 // No call has a condition that its caller must see to.
 #![tactic(auto)]
 
-ghost use Rattle.std.specs.Prelude.{◌+◌, ◌≤◌, ◌≡◌, length};
+ghost use Rattle.std.specs.Prelude.{◌≡◌};
 ghost use Rattle.line.specs.State.{state};
-ghost use Rattle.print.specs.Reply.{reply_text};
 ghost use Rattle.text.specs.Read.{read_line};
-ghost use Rattle.controller.specs.Answer.{answer_room, put_at};
-ghost use Rattle.controller.specs.Serve.{served_step, serving, served_of};
+ghost use Rattle.controller.specs.Serve.{serving};
 
 mod answer;
 
 pub use answer::{ANSWER_ROOM, no_room};
-use answer::{put_refused, put_reply, put_report};
-pub use event::{Done, Event, Refused, Reply, Sample, Setup, SorterSetup};
-pub use line::{Line, Step, Stored};
+use answer::{put_refused, put_report};
+pub use event::{Done, Event, Refused, Reply, Sample, Setup, SorterSetup, Stored};
+pub use line::{Line, Step};
+use print::reply_line;
 pub use refusal::Refusal;
 pub use replay::{Plant, Turned};
 pub use settings::Settings;
 pub use sheet::{Sheet, report};
 use text::Read;
 
-// The next line, and how many bytes of the output are answers now. `full` is 1 where there was too little room and nothing
-// was done, else 0.
-// It is no Option, nor `full` a bool: what is handed on at each line of text has no tag and no padding, which would be copied
-// with it (docs/ARCHITECTURE.md has the rules of it).
-#[derive(Clone, Copy)]
-pub struct Served {
-    pub line: Line,
-    pub at: usize,
-    pub full: u64,
-}
-
-// A step's reply is written.
-fn answered(step: Step, out: &mut [u8], at: usize) -> Served
-    requires { at + answer_room ≤ length out.old }
-    ensures answer { result ≡ served_step step at }
-    ensures output { out.new ≡ put_at at (reply_text step.reply) out.old }
-{
-    Served {
-        line: step.line,
-        at: put_reply(out, at, step.reply),
-        full: 0,
-    }
-}
-
 // One line of text: what it says goes through the line, the records and the tallies, and the answer is written to `out` from
-// `at` on.
+// `at` on. It hands back where the answers end then. Where there is too little room nothing is done.
 pub fn serve(
-    line: Line,
+    line: &mut Line,
     records: &mut [Settings],
     tallies: &mut [i64],
     text: &[u8],
     out: &mut [u8],
     at: usize,
-) -> Served
-    ensures answer { result ≡ served_of (serving (state line records.old tallies.old) (read_line text.now) out.old at) }
-    ensures settings { records.new ≡ (serving (state line records.old tallies.old) (read_line text.now) out.old at).state.settings }
-    ensures memory { tallies.new ≡ (serving (state line records.old tallies.old) (read_line text.now) out.old at).state.tallies }
-    ensures output { out.new ≡ (serving (state line records.old tallies.old) (read_line text.now) out.old at).out }
+) -> Option<usize>
+    ensures answer { result ≡ (serving (state line.old records.old tallies.old) (read_line text.now) out.old at).at }
+    ensures line { line.new ≡ (serving (state line.old records.old tallies.old) (read_line text.now) out.old at).state.line }
+    ensures settings { records.new ≡ (serving (state line.old records.old tallies.old) (read_line text.now) out.old at).state.settings }
+    ensures memory { tallies.new ≡ (serving (state line.old records.old tallies.old) (read_line text.now) out.old at).state.tallies }
+    ensures output { out.new ≡ (serving (state line.old records.old tallies.old) (read_line text.now) out.old at).out }
 {
     if no_room(out.len(), at) {
-        return Served {
-            line: line,
-            at: at,
-            full: 1,
-        };
+        return None;
     }
+    let free = &mut out[at..];
     let Some(said) = text::read_line(text) else {
-        return Served {
-            line: line,
-            at: put_refused(out, at, records.len(), tallies),
-            full: 0,
-        };
+        return Some(at + put_refused(free, records.len(), tallies));
     };
     match said {
-        Read::Event(e) => answered(line.apply(records, tallies, e), out, at),
+        Read::Event(e) => {
+            let reply = line.advance(records, tallies, e);
+            Some(at + reply_line(free, reply))
+        }
         Read::Report(code) => {
             let report = sheet::report(records, tallies, code);
-            Served {
-                line: line,
-                at: put_report(out, at, code, report),
-                full: 0,
-            }
+            Some(at + put_report(free, code, report))
         }
     }
 }

@@ -8,6 +8,7 @@ use time::is_time;
 #[derive(Clone, Copy)]
 pub struct Sorter {
     pub queue: Queue,
+    // on-time left, in ticks of 10 ms, 0 to 9,999
     pub on: u64,
 }
 

@@ -3,11 +3,13 @@ use mathlib.Core.Path.{◌≡◌}
 use mathlib.Core.Bool.{Bool, true, ◌&&◌}
 use Prim.Native.Nat.{◌≤◌, ◌%◌}
 use lib.Dec.{leb, eqb}
-use borrow.Author.Tests.{leb-true}
+use lib.ListN.{length}
+use borrow.Author.Tests.{leb-true, eqb-true}
 use Rattle.laws.specs.Choice.{within}
+use Rattle.lists.specs.Each.{all_of}
 use Rattle.weight.specs.Weight.{is_weight}
 use Rattle.laws.proofs.Tests.{both}
-use Rattle.event.specs.Setup.{sorter_ranged, is_mode, sorters_ranged, setup_ranged, setup_agrees, setup_fit}
+use Rattle.event.specs.Setup.{sorter_count, sorter_ranged, is_mode, sorters_ranged, setup_ranged, setup_agrees, setup_fit}
 use Rattle.event.specs.Sample.{sample_ranged}
 use Rattle.event.specs.declared.Setup.{Setup}
 use Rattle.event.specs.declared.SorterSetup.{SorterSetup}
@@ -20,14 +22,15 @@ pub record Timers (s : Setup) : Type 0 where
   pub tf : s.tf ≤ 9999
   pub some : 1 ≤ s.ta
   pub ta : s.ta ≤ 9999
-  pub sorters : sorters_ranged s ≡ true
+  pub six : length s.sorters ≡ sorter_count
+  pub sorters : all_of sorter_ranged s.sorters ≡ true
 
 -- the tests before those of ta and the sorters
 abbrev delays : Setup → Bool
 delays s = is_mode s.mode && within 1 2 s.edge && leb s.tc 9999 && leb s.tw 9999 && leb s.tf 9999
 
 pub timers : (s : Setup) → setup_fit s ≡ true → Timers s
-unfolding setup_ranged
+unfolding setup_ranged sorters_ranged
 timers s h =
     let r = both (setup_ranged s) (setup_agrees s) h in
     let b = both _ (leb s.need 255) r.0 in
@@ -37,6 +40,7 @@ timers s h =
     let tf = both _ (leb s.tf 9999) ta.0 in
     let tw = both _ (leb s.tw 9999) tf.0 in
     let tc = both (is_mode s.mode && within 1 2 s.edge) (leb s.tc 9999) tw.0 in
+    let six = both (eqb (length s.sorters) sorter_count) (all_of sorter_ranged s.sorters) d.1 in
     let ta-both = both (leb 1 s.ta) (leb s.ta 9999) ta.1 in
     record {
       mode = (both (is_mode s.mode) (within 1 2 s.edge) tc.0).0;
@@ -45,7 +49,8 @@ timers s h =
       tf = leb-true _ _ tf.1;
       some = leb-true _ _ ta-both.0;
       ta = leb-true _ _ ta-both.1;
-      sorters = d.1;
+      six = eqb-true _ _ six.0;
+      sorters = six.1;
     }
 
 -- what a sorter in range bounds

@@ -12,11 +12,11 @@ event_ranged (Sample s) = sample_ranged s
 event_ranged (Recall c) = is_code c
 event_ranged (ClearCode c) = is_code c
 event_ranged (Setup s) = setup_ranged s
-event_ranged (Store c s) = is_code c && record_ranged s
+event_ranged (Store s) = is_code s.code && record_ranged s.settings
 event_ranged e = true
 
 -- "limits out of order; mode 2 with edge 1" is not the case; nor, by 02, T-02, "Sort masks other than 0 in mode 4"
 unfoldable pub event_agrees : Event → Bool
 event_agrees (Setup s) = setup_agrees s
-event_agrees (Store c s) = limits_ordered s
+event_agrees (Store s) = limits_ordered s.settings
 event_agrees e = true

@@ -18,7 +18,7 @@ kind_of ClearAll = kind.ClearAll
 kind_of ErrorReset = kind.ErrorReset
 kind_of NoOperation = kind.NoOperation
 kind_of (Setup s) = kind.Setup
-kind_of (Store c s) = kind.Store
+kind_of (Store s) = kind.Store
 
 -- what f says of a sample, and d of every other kind
 abbrev pub of_sample : {A : Type 0} → (sample.Sample → A) → A → Event → A
@@ -45,5 +45,5 @@ is_setup (Setup s) = true
 is_setup e = false
 
 abbrev pub is_store : Event → Bool
-is_store (Store c s) = true
+is_store (Store s) = true
 is_store e = false

@@ -1,10 +1,14 @@
 -- 01, "Setup", with the six sorters of 02, T-01, and mode 4 of T-02: a fresh line's, the fields' ranges, and what modes 2 and 4 need.
-use Rattle.std.specs.Prelude.{ℕ, ◌%◌, Bool, ◌&&◌, ◌||◌, not, List, [], ◌∷◌, leb, eqb}
+use Rattle.std.specs.Prelude.{ℕ, ◌%◌, Bool, ◌&&◌, ◌||◌, not, leb, eqb, length, replicate}
 use Rattle.laws.specs.Choice.{within}
 use Rattle.lists.specs.Each.{all_of}
 use Rattle.time.specs.Time.{longest, is_time}
 use Rattle.event.specs.declared.Setup.{Setup}
 use Rattle.event.specs.declared.SorterSetup.{SorterSetup}
+
+-- T-01: "The manual allows six sorters"
+abbrev pub sorter_count : ℕ
+sorter_count = 6
 
 -- T-01: "Fresh, each has 100, 50 and 0."
 abbrev pub fresh_sorter : SorterSetup
@@ -20,19 +24,10 @@ fresh_setup =
       tw = 72;
       ta = 35;
       tf = 0;
-      sorter1 = fresh_sorter;
-      sorter2 = fresh_sorter;
-      sorter3 = fresh_sorter;
-      sorter4 = fresh_sorter;
-      sorter5 = fresh_sorter;
-      sorter6 = fresh_sorter;
+      sorters = replicate sorter_count fresh_sorter;
       stop = 0;
       need = 0;
     }
-
--- T-01: "The manual allows six sorters"
-abbrev pub sorter_count : ℕ
-sorter_count = 6
 
 -- T-02 "Bench mode": "Mode 4"
 abbrev pub bench_mode : ℕ
@@ -41,16 +36,13 @@ bench_mode = 4
 abbrev pub is_bench : Setup → Bool
 is_bench s = eqb s.mode bench_mode
 
--- T-01: what sorters 1 to 6 are set to, "ts1 to1 sort1 up to ts6 to6 sort6"
-abbrev pub sorter_setups : Setup → List SorterSetup
-sorter_setups s = s.sorter1 ∷ s.sorter2 ∷ s.sorter3 ∷ s.sorter4 ∷ s.sorter5 ∷ s.sorter6 ∷ []
-
 -- "ts (sorter wait), to (sorter on-time) 1 to 9,999; masks sort, stop, need 0 to 255 .. sort has bit 0 clear (else 2)"
 unfoldable pub sorter_ranged : SorterSetup → Bool
 sorter_ranged c = within 1 longest c.ts && within 1 longest c.to && leb c.sort 255 && eqb (c.sort % 2) 0
 
+-- T-01: all six, "ts1 to1 sort1 up to ts6 to6 sort6"
 unfoldable pub sorters_ranged : Setup → Bool
-sorters_ranged s = all_of sorter_ranged (sorter_setups s)
+sorters_ranged s = eqb (length s.sorters) sorter_count && all_of sorter_ranged s.sorters
 
 -- "mode 1 or 2", and T-02's 4
 abbrev pub is_mode : ℕ → Bool
@@ -72,7 +64,7 @@ abbrev pub sorts_nothing : SorterSetup → Bool
 sorts_nothing c = eqb c.sort 0
 
 unfoldable pub masks_agree : Setup → Bool
-masks_agree s = not (is_bench s) || all_of sorts_nothing (sorter_setups s)
+masks_agree s = not (is_bench s) || all_of sorts_nothing s.sorters
 
 unfoldable pub setup_agrees : Setup → Bool
 setup_agrees s = edge_agrees s && masks_agree s

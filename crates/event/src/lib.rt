@@ -3,7 +3,8 @@
 #![tactic(auto)]
 
 ghost use Rattle.std.specs.Prelude.{◌≡◌};
-ghost use Rattle.event.specs.Setup.{fresh_setup, sorter_setups, sorter_ranged, sorters_ranged, setup_ranged, edge_agrees, masks_agree, setup_agrees, setup_fit};
+ghost use Rattle.lists.specs.Each.{all_of};
+ghost use Rattle.event.specs.Setup.{fresh_setup, sorter_ranged, sorters_ranged, sorts_nothing, setup_ranged, edge_agrees, masks_agree, setup_agrees, setup_fit};
 ghost use Rattle.event.specs.Sample.{sample_ranged};
 ghost use Rattle.event.specs.Event.{event_ranged, event_agrees};
 ghost use Rattle.event.specs.Kind.{kind_of};
@@ -26,8 +27,7 @@ pub struct SorterSetup {
     pub sort: u64,
 }
 
-// What stopped status lets one set up: timers are in ticks of 10 ms, 0 or 1 to 9,999; masks are 0 to 255. The six
-// sorters are fields, by the names that the setup line has for them, and `sorters` gives them as an array.
+// What stopped status lets one set up: timers are in ticks of 10 ms, 0 or 1 to 9,999; masks are 0 to 255.
 #[derive(Clone, Copy)]
 pub struct Setup {
     // 1 in through, 2 stop, 4 bench
@@ -38,12 +38,8 @@ pub struct Setup {
     pub tw: u64,
     pub ta: u64,
     pub tf: u64,
-    pub sorter1: SorterSetup,
-    pub sorter2: SorterSetup,
-    pub sorter3: SorterSetup,
-    pub sorter4: SorterSetup,
-    pub sorter5: SorterSetup,
-    pub sorter6: SorterSetup,
+    // sorter k at k - 1
+    pub sorters: [SorterSetup; Setup::SORTERS],
     pub stop: u64,
     pub need: u64,
 }
@@ -59,6 +55,14 @@ pub struct Sample {
     pub foreign: u64,
 }
 
+// A record, and the code that it is stored at.
+#[derive(Clone, Copy)]
+pub struct Stored {
+    // 0 to 99 where it is accepted
+    pub code: u64,
+    pub settings: Settings,
+}
+
 #[derive(Clone, Copy)]
 pub enum Event {
     Sample(Sample),
@@ -72,7 +76,7 @@ pub enum Event {
     ErrorReset,
     NoOperation,
     Setup(Setup),
-    Store(u64, Settings),
+    Store(Stored),
 }
 
 // The kinds, in 01's order.
@@ -139,40 +143,22 @@ impl Setup {
             tw: Setup::TW,
             ta: Setup::TA,
             tf: Setup::TF,
-            sorter1: sorter,
-            sorter2: sorter,
-            sorter3: sorter,
-            sorter4: sorter,
-            sorter5: sorter,
-            sorter6: sorter,
+            sorters: [sorter; Setup::SORTERS],
             stop: 0,
             need: 0,
         }
     }
 
-    // Sorters 1 to 6, in their order.
-    pub fn sorters(self) -> [SorterSetup; Setup::SORTERS]
-        ensures { result ≡ sorter_setups self }
-    {
-        [
-            self.sorter1,
-            self.sorter2,
-            self.sorter3,
-            self.sorter4,
-            self.sorter5,
-            self.sorter6,
-        ]
-    }
-
-    // No loop and no early end, as measured: every event tests them, and straight code is inlined.
-    #[tactic(auto, unfolding(crate::specs::Setup::sorters_ranged, lists::specs::Each::all_of))]
+    // No early end, as measured: every event tests them, and straight code is inlined.
+    #[tactic(auto, unfolding(crate::specs::Setup::sorters_ranged), using(crate::proofs::Tests::one_tested, crate::proofs::Tests::all_tested))]
     fn sorters_ranged(self) -> bool
         ensures { result ≡ sorters_ranged self }
     {
-        self.sorter1.ranged()
-            & (self.sorter2.ranged()
-                & (self.sorter3.ranged()
-                    & (self.sorter4.ranged() & (self.sorter5.ranged() & self.sorter6.ranged()))))
+        let mut ranged = true;
+        for sorter in &self.sorters {
+            ranged &= sorter.ranged();
+        }
+        ranged
     }
 
     #[tactic(auto, unfolding(crate::specs::Setup::setup_ranged))]
@@ -198,17 +184,24 @@ impl Setup {
         !((self.mode == 2) & (self.edge == 1))
     }
 
+    // Every sort mask is 0.
+    #[tactic(auto, using(crate::proofs::Tests::one_tested, crate::proofs::Tests::all_tested))]
+    fn sorts_nothing(self) -> bool
+        ensures { result ≡ all_of sorts_nothing self.sorters }
+    {
+        let mut nothing = true;
+        for setup in &self.sorters {
+            nothing &= setup.sort == 0;
+        }
+        nothing
+    }
+
     // Mode 4 needs sort masks of 0.
-    #[tactic(auto, unfolding(crate::specs::Setup::masks_agree, lists::specs::Each::all_of))]
+    #[tactic(auto, unfolding(crate::specs::Setup::masks_agree))]
     fn masks_agree(self) -> bool
         ensures { result ≡ masks_agree self }
     {
-        (self.mode != Setup::BENCH)
-            | ((self.sorter1.sort == 0)
-                & ((self.sorter2.sort == 0)
-                    & ((self.sorter3.sort == 0)
-                        & ((self.sorter4.sort == 0)
-                            & ((self.sorter5.sort == 0) & (self.sorter6.sort == 0))))))
+        (self.mode != Setup::BENCH) | self.sorts_nothing()
     }
 
     // No field contradicts another.
@@ -255,7 +248,7 @@ impl Event {
             Event::ErrorReset => Kind::ErrorReset,
             Event::NoOperation => Kind::NoOperation,
             Event::Setup(_) => Kind::Setup,
-            Event::Store(_, _) => Kind::Store,
+            Event::Store(_) => Kind::Store,
         }
     }
 
@@ -268,7 +261,7 @@ impl Event {
             Event::Sample(s) => s.ranged(),
             Event::Recall(c) | Event::ClearCode(c) => is_code(c),
             Event::Setup(s) => s.ranged(),
-            Event::Store(c, s) => is_code(c) & s.ranged(),
+            Event::Store(s) => is_code(s.code) & s.settings.ranged(),
             _ => true,
         }
     }
@@ -280,7 +273,7 @@ impl Event {
     {
         match self {
             Event::Setup(s) => s.agrees(),
-            Event::Store(_, s) => s.ordered(),
+            Event::Store(s) => s.settings.ordered(),
             _ => true,
         }
     }

@@ -1,5 +1,6 @@
 -- What a line of the program `exits` says: `a= b=` begins a call, `verdict=` and `signal=` give a tick. Fields stand as in 01, "Text lines".
 use Rattle.std.specs.Prelude.{ℕ, ◌-◌, ◌^◌, List, [], ◌∷◌, leb, ℤ, pos, negsuc, length, Option, None, Some}
+use Rattle.std.specs.Option.{option_or}
 use Rattle.laws.specs.Choice.{when◌then◌else◌}
 use Rattle.numeral.specs.Number.{hold, unsigned_of}
 use Rattle.text.specs.Form.{Item, fields_form, Values, other, values, line_values}
@@ -25,32 +26,31 @@ abbrev pub tick_of : ℤ → Option ℕ
 tick_of (pos n) = when leb n largest then Some n else None
 tick_of (negsuc n) = None
 
--- the tick of a line, if it has the form of one
-abbrev pub tick_in : Values → Option (Option ℕ)
+-- the tick of a line of one field
+abbrev pub tick_in : Values → Option ℕ
 tick_in other = None
-tick_in (values vs) = Some (tick_of (at vs 0))
+tick_in (values vs) = tick_of (at vs 0)
 
-abbrev pub verdict_or : Option (Option ℕ) → Option Entry → Option Entry
-verdict_or None next = next
-verdict_or (Some None) next = Some TooWide
-verdict_or (Some (Some t)) next = Some (Verdict t)
+-- what such a line says, a verdict's tick or a signal's
+abbrev pub tick_or_wide : (ℕ → Entry) → Option ℕ → Entry
+tick_or_wide says None = TooWide
+tick_or_wide says (Some t) = says t
 
-abbrev pub signal_or : Option (Option ℕ) → Option Entry → Option Entry
-signal_or None next = next
-signal_or (Some None) next = Some TooWide
-signal_or (Some (Some t)) next = Some (Signal t)
+abbrev pub tick_entry : (ℕ → Entry) → Values → Option Entry
+tick_entry says other = None
+tick_entry says (values vs) = Some (tick_or_wide says (tick_in (values vs)))
 
 -- a bound of the window; one that is negative or too large is held at a number that is in no window
 abbrev pub bound_of : ℤ → ℕ
 bound_of v = unsigned_of (hold v)
 
-abbrev pub window_or : Values → Option Entry
-window_or other = None
-window_or (values vs) = Some (Begin (bound_of (at vs 0)) (bound_of (at vs 1)))
+abbrev pub window_entry : Values → Option Entry
+window_entry other = None
+window_entry (values vs) = Some (Begin (bound_of (at vs 0)) (bound_of (at vs 1)))
 
 -- what a line of no more than the longest length says
 abbrev pub short_entry : List ℕ → Option Entry
-short_entry s = verdict_or (tick_in (line_values verdict_form s)) (signal_or (tick_in (line_values signal_form s)) (window_or (line_values window_form s)))
+short_entry s = option_or (tick_entry Verdict (line_values verdict_form s)) (option_or (tick_entry Signal (line_values signal_form s)) (window_entry (line_values window_form s)))
 
 -- a line that is too long, or of another form, says nothing
 abbrev pub read_entry : List ℕ → Option Entry

@@ -1,10 +1,12 @@
 // What a line says.
-ghost use Rattle.std.specs.Prelude.{◌≡◌, [], ◌∷◌, ◌++◌, map, drop};
-ghost use Rattle.text.specs.Form.{byte, number, line_values};
-ghost use Rattle.exitlog.specs.Entry.{signal_form, window_form, tick_in, signal_or, window_or, read_entry};
+ghost use Rattle.std.specs.Prelude.{◌≡◌, drop, Some};
+ghost use Rattle.text.specs.Form.{line_values};
+ghost use Rattle.field.specs.Field.{sole_form, sole_value};
+ghost use Rattle.exitlog.specs.Entry.{verdict_form, signal_form, window_form, tick_in, tick_entry, window_entry, read_entry};
+ghost use Rattle.exitlog.specs.declared.entry.Entry.TheVariants.{Verdict, Signal};
 ghost use Rattle.exitlog.specs.Views.{PlainNumber, TickOf};
 
-use field::read_field;
+use field::{read_field, sole_field};
 use numeral::unsigned_of;
 use text::LONGEST_LINE;
 
@@ -32,23 +34,35 @@ fn exact(line: &[u8], at: usize) -> Option<u64>
     Some(size)
 }
 
-// The tick of a line that is one field with this key: none inside where 64 bits do not hold it.
-fn read_tick(line: &[u8], key: &[u8]) -> Option<Option<u64>>
-    ensures { result ≡ tick_in (line_values (map byte key.now ++ number ∷ []) line.now) }
+// The tick of a line that is one field with this key; `value` is its number, held within the limit.
+fn tick(line: &[u8], key: &[u8], value: i64) -> Option<u64>
+    requires { Some value ≡ sole_value (line_values (sole_form key.now) line.now) }
+    ensures { result ≡ tick_in (line_values (sole_form key.now) line.now) }
 {
-    let found = read_field(line, 0, key)?;
-    if found.next < line.len() {
+    if value < 0 {
         return None;
     }
-    if found.value < 0 {
-        return Some(None);
-    }
-    Some(exact(line, key.len()))
+    exact(line, key.len())
+}
+
+// The two lists are told apart by their keys alone: a function over both would take the key and the constructor for two lines.
+fn read_verdict(line: &[u8]) -> Option<Entry>
+    ensures { result ≡ tick_entry Verdict (line_values verdict_form line.now) }
+{
+    let value = sole_field(line, b"verdict=")?;
+    Some(tick(line, b"verdict=", value).map_or(Entry::TooWide, Entry::Verdict))
+}
+
+fn read_signal(line: &[u8]) -> Option<Entry>
+    ensures { result ≡ tick_entry Signal (line_values signal_form line.now) }
+{
+    let value = sole_field(line, b"signal=")?;
+    Some(tick(line, b"signal=", value).map_or(Entry::TooWide, Entry::Signal))
 }
 
 // The window of a call.
 fn read_window(line: &[u8]) -> Option<Entry>
-    ensures { result ≡ window_or (line_values window_form line.now) }
+    ensures { result ≡ window_entry (line_values window_form line.now) }
 {
     let a = read_field(line, 0, b"a=")?;
     let b = read_field(line, a.next, b" b=")?;
@@ -61,16 +75,6 @@ fn read_window(line: &[u8]) -> Option<Entry>
     })
 }
 
-fn read_signal(line: &[u8]) -> Option<Entry>
-    ensures { result ≡ signal_or (tick_in (line_values signal_form line.now)) (window_or (line_values window_form line.now)) }
-{
-    match read_tick(line, b"signal=") {
-        None => read_window(line),
-        Some(None) => Some(Entry::TooWide),
-        Some(Some(t)) => Some(Entry::Signal(t)),
-    }
-}
-
 #[tactic(auto, using(crate::proofs::Long::too_long))]
 pub fn read_entry(line: &[u8]) -> Option<Entry>
     ensures { result ≡ read_entry line.now }
@@ -78,9 +82,7 @@ pub fn read_entry(line: &[u8]) -> Option<Entry>
     if LONGEST_LINE < line.len() {
         return None;
     }
-    match read_tick(line, b"verdict=") {
-        None => read_signal(line),
-        Some(None) => Some(Entry::TooWide),
-        Some(Some(t)) => Some(Entry::Verdict(t)),
-    }
+    read_verdict(line)
+        .or_else(|| read_signal(line))
+        .or_else(|| read_window(line))
 }

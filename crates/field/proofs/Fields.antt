@@ -6,13 +6,14 @@ use mathlib.Core.List.{List, [], ◌∷◌, ◌++◌, map}
 use native.Mathlib.Omega.{arith}
 use lib.Dec.{eqb}
 use lib.IntN.{ℤ, pos}
-use lib.ListN.{length}
+use lib.ListN.{length, drop, length-drop, drop_of_length-le}
+use Rattle.std.specs.Prelude.{Option, None, Some}
 use Rattle.laws.proofs.Tests.{both, by_cases, never}
-use Rattle.numeral.specs.Number.{Head, none, some, hold}
+use Rattle.numeral.specs.Number.{Head, none, some, hold, number_head}
 use Rattle.numeral.specs.Found.{held_head}
-use Rattle.text.specs.Form.{Item, byte, number, other, and_rest, line_values}
+use Rattle.text.specs.Form.{Item, byte, number, other, values, and_rest, line_values}
 use Rattle.text.specs.Views.{is_prefix}
-use Rattle.field.specs.Field.{field_head}
+use Rattle.field.specs.Field.{field_head, sole_form, sole_value}
 
 -- ---- a number that was found is that number
 
@@ -74,3 +75,53 @@ number-held (some w r) v s e = record { whole = w; held = same-value e; head = a
 pub more-behind : (s : List ℕ) → 0 < length s → line_values [] s ≡ other
 more-behind [] h = absurd (omega (arith, h))
 more-behind (b ∷ s) h = refl
+
+-- ---- a line of one field
+
+module _ (key s : List ℕ) where
+  pub sole_none : none ≡ held_head (field_head key s) → None ≡ sole_value (line_values (sole_form key) s)
+  sole_none e = rw (field_law key [] s, none-held (field_head key s) e) refl
+
+  module _ (v : ℤ) (next : ℕ) (n : Number (field_head key s) v (drop next s)) where
+    pub sole-more : next < length s → None ≡ sole_value (line_values (sole_form key) s)
+    sole-more h =
+        let some_left : 0 < length (drop next s) = let l = length-drop next s in omega (arith, l, h) in
+        rw (field_law key [] s, n.head, more-behind (drop next s) some_left) refl
+
+    pub sole-is : length s ≤ next → Some v ≡ sole_value (line_values (sole_form key) s)
+    sole-is h = rw (field_law key [] s, n.head, drop_of_length-le s h, n.held) refl
+
+-- the number of a line of one field, v as it is held: nothing stands behind it
+pub record Sole (key s : List ℕ) (v : ℤ) : Type 0 where
+  pub whole : ℤ
+  pub held : v ≡ hold whole
+  pub head : number_head (drop (length key) s) ≡ some whole []
+  pub form : line_values (sole_form key) s ≡ values (whole ∷ [])
+
+is_there : {A : Type 0} → Option A → Bool
+is_there None = false
+is_there (Some x) = true
+
+there_or : ℤ → Option ℤ → ℤ
+there_or v None = v
+there_or v (Some w) = w
+
+nothing-there : {A B : Type 0} (x : B) → Some x ≡ None → A
+unfolding is_there
+nothing-there x e = never (sym (ap is_there e))
+
+same_there : {v w : ℤ} → Some v ≡ Some w → v ≡ w
+unfolding there_or
+same_there {v = v} e = ap (there_or v) e
+
+sole-head : (key s : List ℕ) (v : ℤ) (h : Head) → line_values (sole_form key) s ≡ and_rest (line_values []) h → number_head (drop (length key) s) ≡ h
+    → Some v ≡ sole_value (line_values (sole_form key) s) → Sole key s v
+sole-head key s v none f n e = nothing-there v (rw f at e)
+sole-head key s v (some w []) f n e = record { whole = w; held = same_there (rw f at e); head = n; form = f }
+sole-head key s v (some w (b ∷ r)) f n e = nothing-there v (rw f at e)
+
+pub sole : (key s : List ℕ) (v : ℤ) → Some v ≡ sole_value (line_values (sole_form key) s) → Sole key s v
+sole key s v e =
+    by_cases (is_prefix key s)
+    (λ y. sole-head key s v (number_head (drop (length key) s)) (rw y at (field_law key [] s)) refl e)
+    (λ y. let f : line_values (sole_form key) s ≡ other = rw y at (field_law key [] s) in nothing-there v (rw f at e))

@@ -3,7 +3,8 @@
 
 ghost use Rattle.std.specs.Prelude.{◌≡◌, drop};
 ghost use Rattle.numeral.specs.Found.{found, held_head};
-ghost use Rattle.field.specs.Field.{field_head};
+ghost use Rattle.text.specs.Form.{line_values};
+ghost use Rattle.field.specs.Field.{field_head, sole_form, sole_value};
 
 use numeral::{Found, read_number};
 use text::has_key;
@@ -17,4 +18,15 @@ pub fn read_field(line: &[u8], at: usize, key: &[u8]) -> Option<Found>
         return None;
     }
     read_number(line, at + key.len())
+}
+
+// The number of a line that is one field with this key, held within the limit. The key is given with its `=`.
+pub fn sole_field(line: &[u8], key: &[u8]) -> Option<i64>
+    ensures { result ≡ sole_value (line_values (sole_form key.now) line.now) }
+{
+    let found = read_field(line, 0, key)?;
+    if found.next < line.len() {
+        return None;
+    }
+    Some(found.value)
 }

@@ -1,24 +1,25 @@
 -- An event is accepted, which tells that no rule of the table held, or refused. Assumes nothing.
-use mathlib.Core.Path.{◌≡◌, refl}
+use mathlib.Core.Path.{◌≡◌, refl, sym}
 use mathlib.Core.Bool.{true, false, not, ◌||◌}
 use mathlib.Core.List.{List}
 use Prim.Native.Nat.{ℕ}
 use lib.Dec.{eqb}
 use lib.IntN.{ℤ}
 use lib.ListN.{length}
-use Rattle.std.specs.Prelude.{Option, Some, None}
+use Rattle.std.specs.Prelude.{Option, Some, None, is_none}
 use borrow.Author.Tests.{not-true, not-false}
-use Rattle.laws.proofs.Tests.{both}
+use Rattle.laws.proofs.Tests.{both, if_ind}
 use Rattle.settings.specs.Settings.{record_fit, settings_length}
 use Rattle.settings.specs.declared.Settings.{Settings}
 use Rattle.event.specs.Sample.{sample_ranged}
 use Rattle.event.specs.Event.{event_ranged, event_agrees}
 use Rattle.event.specs.declared.Sample as sample
-use Rattle.event.specs.declared.Event.TheVariants.{Sample}
+use Rattle.event.specs.declared.Event.TheVariants.{Sample, Store}
 use Rattle.event.specs.declared.Event.{Event}
+use Rattle.event.specs.Reply.{Reply}
+use Rattle.event.specs.declared.Stored.{Stored}
 use Rattle.tallies.specs.Memory.{fit_at, tallies_length}
 use Rattle.line.specs.Fit.{line_fit}
-use Rattle.undo.specs.Undo.{no_chance}
 use Rattle.refusal.proofs.Lengths.{lengths_right}
 use Rattle.refusal.proofs.Numbers.{none-holds}
 use Rattle.refusal.specs.Table.{number_of}
@@ -26,8 +27,12 @@ use Rattle.refusal.specs.declared.Refusal.{Refusal}
 use Rattle.refusal.specs.declared.Refusal.TheVariants as refusal
 use Rattle.refusal.specs.Rows.{lengths_wrong, reads_record, reads_tally, refused_running, refused_in_emergency, refused_paused, run_unsafe, run_occupied, nothing_to_cancel}
 use Rattle.line.specs.Refusal.{memory_sound, input_off, faults_of, refusal_of}
-use Rattle.line.specs.Tallying.{Out}
-use Rattle.line.specs.Step.{accepted, refused, unless_refused, step_of}
+use Rattle.line.specs.Tallying.{Out, untallied, noted, recorded}
+use Rattle.line.specs.Effect.{Effect, replied}
+use Rattle.line.specs.Sample.{sampled}
+use Rattle.verdict.specs.Verdict.{is_verdict}
+use Rattle.line.specs.State.{State, active_of}
+use Rattle.line.specs.Step.{accepted, refused, unless_refused, step_of, out_on, step_on}
 use Rattle.line.specs.declared.line.Line.{Line}
 
 pub record Accepted (l : Line) (count : ℕ) (a : Settings) (ts : List ℤ) (e : Event) : Type 0 where
@@ -40,7 +45,7 @@ pub record Accepted (l : Line) (count : ℕ) (a : Settings) (ts : List ℤ) (e :
   pub agrees : event_agrees e ≡ true
   pub safe : run_unsafe (input_off l) e ≡ false
   pub free : run_occupied l.status a.nearzero l.last.gross e ≡ false
-  pub chance : nothing_to_cancel (no_chance l.undo) e ≡ false
+  pub chance : nothing_to_cancel (is_none l.undo) e ≡ false
 
 pub accepted_tells : (l : Line) (count : ℕ) (a : Settings) (ts : List ℤ) (e : Event) → refusal_of l count a ts e ≡ None → Accepted l count a ts e
 unfolding refusal_of
@@ -115,3 +120,9 @@ sample_given l count a ts e s h is =
     let y = accepted_tells l count a ts (Sample s) (rw is at h) in
     let m = sound_tells l count a ts (Sample s) y.sound in
     (m.line, m.active, y.ranged)
+
+-- ---- what an accepted event stores
+
+pub none_recorded : (x : Effect) (target : ℤ) (ts : List ℤ) → (recorded x target ts).storing ≡ None
+unfolding recorded noted
+none_recorded x target ts = if_ind (λ (o : Out). o.storing ≡ None) (is_verdict x.outcome) (noted x target ts) (untallied x ts) (λ _. refl) (λ _. refl)

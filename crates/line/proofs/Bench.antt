@@ -4,27 +4,23 @@ use mathlib.Core.Path.{◌≡◌, refl, sym, ◌∙◌}
 use mathlib.Core.Bool.{true, false}
 use Prim.Native.Nat.{ℕ}
 use lib.Dec.{eqb}
-use lib.IntN.{ℤ, pos, ◌-ℤ◌}
+use lib.IntN.{ℤ, pos}
 use lib.Signed.{le_z}
 use Rattle.laws.proofs.Tests.{if_ind, clash, never}
-use Rattle.settings.specs.Grade.{grade_of}
-use Rattle.settings.specs.declared.Settings.{Settings}
 use Rattle.bench.specs.Bench.{ticked_on}
 use Rattle.bench.specs.declared.Bench.{Bench}
 use Rattle.bench.proofs.Grosses.{ticked_armed, disarmed_armed, detects_armed}
-use Rattle.detector.specs.Foreign.{due, oldest_used}
+use Rattle.detector.specs.Foreign.{oldest_used}
 use Rattle.event.specs.Setup.{is_bench}
 use Rattle.item.specs.declared.Item.TheVariants.{None}
-use Rattle.item.specs.declared.Weighed.{Weighed}
-use Rattle.item.specs.declared.Weighed.TheVariants.{Still, Mean}
 use Rattle.line.specs.Line.{with_foreign, with_item}
-use Rattle.line.specs.Verdict.{given, or_crash, verdict_of, judged}
-use Rattle.line.specs.Sample.{on_bench, step4, step5, step6, after_weighing, box_taken, ninth_signal, unless_ninth, running_tick}
+use Rattle.line.specs.Verdict.{given}
+use Rattle.line.specs.Sample.{on_bench, step4, step5, step6, box_taken, ninth_signal, unless_ninth, running_tick}
 use Rattle.line.specs.declared.sample.Tick.{Tick}
 use Rattle.line.specs.declared.line.Line.{Line}
-use Rattle.line.specs.declared.effect.Effect.{Effect}
-use Rattle.line.proofs.Moves.{Judged, grade_judged, foreign-judged, crash-judged}
-use Rattle.line.proofs.Ticks.{given-same, seven_ind}
+use Rattle.line.specs.Effect.{Effect}
+use Rattle.line.proofs.Moves.{Judged}
+use Rattle.line.proofs.Ticks.{given-same, six_ind, seven_ind}
 
 -- ---- step 6 leaves bench and setup, and gives no two-on
 
@@ -40,25 +36,13 @@ given_sixth m k v net b s j =
     let same = given-same k 0 v net in
     record { bench = same.bench ∙ b; setup = same.setup ∙ s; detected = refl; alone = j.not7 }
 
-verdict_sixth : (m : Line) (a : Settings) (net : ℤ) → Sixth m (verdict_of (with_item m None) a net)
-unfolding verdict_of
-verdict_sixth m a net =
-    let k = with_item m None in
-    if_ind (Sixth m) (due m.foreign) _ _
-    (λ _. given_sixth m (with_foreign k (oldest_used m.foreign)) (or_crash k 6) net refl refl (crash-judged k 6 foreign-judged))
-    (λ _. given_sixth m k (or_crash k (grade_of a net)) net refl refl (crash-judged k (grade_of a net) (grade_judged a net)))
-
-weighed_sixth : (m : Line) (a : Settings) (w : Weighed) → Sixth m (after_weighing m a w)
-unfolding after_weighing judged
-weighed_sixth m a (Still i) = record { bench = refl; setup = refl; detected = refl; alone = refl }
-weighed_sixth m a (Mean x) =
-    if_ind (Sixth m) (le_z x a.nearzero) _ _
-    (λ _. record { bench = refl; setup = refl; detected = refl; alone = refl })
-    (λ _. verdict_sixth m a (x -ℤ a.tare))
-
 six_sixth : (m : Line) (t : Tick) → Sixth m (step6 m t)
-unfolding step6
-six_sixth m t = weighed_sixth m t.active _
+six_sixth m t =
+    six_ind (Sixth m) m t
+    (λ _. assumption)
+    (record { bench = refl; setup = refl; detected = refl; alone = refl })
+    (λ v net _ j _. given_sixth m (with_foreign (with_item m None) (oldest_used m.foreign)) v net refl refl j)
+    (λ v net _ j _. given_sixth m (with_item m None) v net refl refl j)
 
 -- ---- a running tick
 

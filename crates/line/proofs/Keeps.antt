@@ -1,14 +1,13 @@
 -- Parts of a line are changed and it stays fit. Assumes nothing.
 use mathlib.Core.Path.{◌≡◌, refl}
-use mathlib.Core.Bool.{true, ◌&&◌, ◌||◌, not}
+use mathlib.Core.Bool.{true}
 use mathlib.Core.List.{List}
 use Prim.Native.Nat.{ℕ}
-use lib.Dec.{leb, eqb}
+use lib.Dec.{eqb}
 use borrow.Author.Tests.{eqb-true}
-use Rattle.laws.proofs.Tests.{both, and_intro, if_ind}
+use Rattle.laws.proofs.Tests.{and_intro, if_ind}
 use Rattle.weight.specs.Weight.{is_weight}
 use Rattle.mask.specs.Bits.{marked}
-use Rattle.lists.specs.Each.{all_of}
 use Rattle.sorters.specs.Sorters.{all_fit, all_ticked, all_entered}
 use Rattle.sorters.proofs.Keeps.{all_ticked-fit, all_entered-fit, all_off-fit, all_off_idle}
 use Rattle.detector.specs.Foreign.{foreign_ticked, foreign_fit}
@@ -20,7 +19,7 @@ use Rattle.bench.proofs.Grosses.{ticked-fit}
 use Rattle.device.proofs.Keeps.{settled-fit}
 use Rattle.detector.proofs.Signals.{foreign_ticked-fit}
 use Rattle.event.specs.declared.Sample.{Sample}
-use Rattle.event.specs.Setup.{is_bench, sorter_setups, sorter_ranged, sorters_ranged}
+use Rattle.event.specs.Setup.{is_bench}
 use Rattle.event.proofs.Facts.{timers, InRange}
 use Rattle.status.specs.Status.{stopped, running, paused, emergency, error_known, error_for}
 use Rattle.line.specs.Line.{busy, with_status, with_sorters, with_foreign, with_item, with_bench}
@@ -34,7 +33,7 @@ use Rattle.line.specs.Sample.{step1, on_bench, step4, step5}
 use Rattle.line.specs.declared.line.Line.{Line}
 use Rattle.item.specs.declared.Item.{Item}
 use Rattle.line.specs.declared.sample.Tick.{Tick}
-use Rattle.line.proofs.Facts.{FitLine}
+use Rattle.line.proofs.Facts.{FitLine, status_tells}
 
 -- ---- the status
 
@@ -48,11 +47,7 @@ paused-status l s e = simp (s, e)
 
 -- a line that is not paused has no error
 pub error-none : (l : Line) → status_fit l ≡ true → l.status ≡ running → l.error ≡ no_error
-unfolding status_fit
-error-none l h s =
-    let a = both _ (not ((eqb l.status stopped || eqb l.status emergency) && busy l)) h in
-    let b = both (leb l.status 3 && error_known l.error) (eqb l.status paused || eqb l.error no_error) a.0 in
-    eqb-true l.error no_error (rw s at b.1)
+error-none l h s = eqb-true l.error no_error (rw s at (status_tells l h).paused)
 
 -- ---- a running line
 
@@ -62,101 +57,21 @@ pub record Running (l : Line) : Type 0 where
   pub error : l.error ≡ no_error
 
 pub with_item_lem : (l : Line) (i : Item) → Running l → item_fit i l.setup ≡ true → Running (with_item l i)
-with_item_lem l i r h =
-    record {
-      fit = record {
-        code = r.fit.code;
-        setup = r.fit.setup;
-        last = r.fit.last;
-        sensor = r.fit.sensor;
-        status = running-status (with_item l i) r.status r.error;
-        sorters = r.fit.sorters;
-        foreign = r.fit.foreign;
-        item = h;
-        undo = r.fit.undo;
-        bench = r.fit.bench;
-      };
-      status = r.status;
-      error = r.error;
-    }
+with_item_lem l i r h = assumption (r, h, running-status (with_item l i) r.status r.error)
 
 with_sorters_lem : (l : Line) (ss : List Sorter) → Running l → all_fit ss ≡ true → Running (with_sorters l ss)
-with_sorters_lem l ss r h =
-    record {
-      fit = record {
-        code = r.fit.code;
-        setup = r.fit.setup;
-        last = r.fit.last;
-        sensor = r.fit.sensor;
-        status = running-status (with_sorters l ss) r.status r.error;
-        sorters = h;
-        foreign = r.fit.foreign;
-        item = r.fit.item;
-        undo = r.fit.undo;
-        bench = r.fit.bench;
-      };
-      status = r.status;
-      error = r.error;
-    }
+with_sorters_lem l ss r h = assumption (r, h, running-status (with_sorters l ss) r.status r.error)
 
 pub with_foreign_lem : (l : Line) (f : Foreign) → Running l → foreign_fit f ≡ true → Running (with_foreign l f)
-with_foreign_lem l f r h =
-    record {
-      fit = record {
-        code = r.fit.code;
-        setup = r.fit.setup;
-        last = r.fit.last;
-        sensor = r.fit.sensor;
-        status = running-status (with_foreign l f) r.status r.error;
-        sorters = r.fit.sorters;
-        foreign = h;
-        item = r.fit.item;
-        undo = r.fit.undo;
-        bench = r.fit.bench;
-      };
-      status = r.status;
-      error = r.error;
-    }
+with_foreign_lem l f r h = assumption (r, h, running-status (with_foreign l f) r.status r.error)
 
 pub with_bench_lem : (l : Line) (b : Bench) → Running l → bench_fit b ≡ true → Running (with_bench l b)
-with_bench_lem l b r h =
-    record {
-      fit = record {
-        code = r.fit.code;
-        setup = r.fit.setup;
-        last = r.fit.last;
-        sensor = r.fit.sensor;
-        status = running-status (with_bench l b) r.status r.error;
-        sorters = r.fit.sorters;
-        foreign = r.fit.foreign;
-        item = r.fit.item;
-        undo = r.fit.undo;
-        bench = h;
-      };
-      status = r.status;
-      error = r.error;
-    }
+with_bench_lem l b r h = assumption (r, h, running-status (with_bench l b) r.status r.error)
 
 pub with_paused : (l : Line) (e : ℕ) → FitLine l → error_known e ≡ true → FitLine (with_status l paused e)
-with_paused l e f h =
-    record {
-      code = f.code;
-      setup = f.setup;
-      last = f.last;
-      sensor = f.sensor;
-      status = paused-status (with_status l paused e) refl h;
-      sorters = f.sorters;
-      foreign = f.foreign;
-      item = f.item;
-      undo = f.undo;
-      bench = f.bench;
-    }
+with_paused l e f h = assumption (f, paused-status (with_status l paused e) refl h)
 
 -- ---- the steps that change one part
-
-sorters_in_range : (l : Line) → Running l → all_of sorter_ranged (sorter_setups l.setup) ≡ true
-unfolding sorters_ranged
-sorters_in_range l r = (timers l.setup r.fit.setup).sorters
 
 pub fit-on_bench : (l : Line) (t : Tick) → Running l → is_weight t.gross ≡ true → Running (on_bench l t)
 unfolding on_bench
@@ -169,8 +84,8 @@ fit-on_bench l t r g =
 pub fit-step4 : (l : Line) → Running l → Running (step4 l)
 unfolding step4
 fit-step4 l r =
-    with_sorters_lem l (all_ticked l.sorters (sorter_setups l.setup)) r
-    (all_ticked-fit l.sorters (sorter_setups l.setup) r.fit.sorters (sorters_in_range l r))
+    with_sorters_lem l (all_ticked l.sorters l.setup.sorters) r
+    (all_ticked-fit l.sorters l.setup.sorters r.fit.sorters (timers l.setup r.fit.setup).sorters)
 
 pub fit-step5 : (l : Line) (t : Tick) → Running l → Running (step5 l t)
 unfolding step5
@@ -181,8 +96,8 @@ fit-step5 l t r =
 pub fit-sorted : (l : Line) (v : ℕ) → Running l → Running (sorted_for l v)
 unfolding sorted_for
 fit-sorted l v r =
-    with_sorters_lem l (all_entered v l.sorters (sorter_setups l.setup)) r
-    (all_entered-fit v l.sorters (sorter_setups l.setup) r.fit.sorters (sorters_in_range l r))
+    with_sorters_lem l (all_entered v l.sorters l.setup.sorters) r
+    (all_entered-fit v l.sorters l.setup.sorters r.fit.sorters (timers l.setup r.fit.setup).sorters)
 
 error_known_lem : (v : ℕ) → error_known (error_for v) ≡ true
 unfolding error_for error_known
@@ -199,36 +114,14 @@ fit-stopped l v f =
 pub fit-step1 : (l : Line) (s : Sample) → FitLine l → InRange s → FitLine (step1 l s)
 unfolding step1 last_fit status_fit busy
 fit-step1 l s f r =
-    record {
-      code = f.code;
-      setup = f.setup;
-      last = and_intro (and_intro r.gross r.safety) r.foreign;
-      sensor = settled-fit l.sensor l.setup.tc s.sensor (timers l.setup f.setup).tc r.sensor f.sensor;
-      status = f.status;
-      sorters = f.sorters;
-      foreign = f.foreign;
-      item = f.item;
-      undo = f.undo;
-      bench = f.bench;
-    }
+    let sensor = settled-fit l.sensor l.setup.tc s.sensor (timers l.setup f.setup).tc r.sensor f.sensor in
+    assumption (f, and_intro (and_intro r.gross r.safety) r.foreign, sensor)
 
 -- ---- stopped and emergency
 
 halted-fit : (l : Line) (s : ℕ) → FitLine l → status_fit (halted l s) ≡ true → FitLine (halted l s)
 unfolding halted item_fit
-halted-fit l s f h =
-    record {
-      code = f.code;
-      setup = f.setup;
-      last = f.last;
-      sensor = f.sensor;
-      status = h;
-      sorters = all_off-fit;
-      foreign = f.foreign;
-      item = refl;
-      undo = f.undo;
-      bench = f.bench;
-    }
+halted-fit l s f h = assumption (f, h, all_off-fit)
 
 stopped-status : (l : Line) → status_fit (halted l stopped) ≡ true
 unfolding halted status_fit error_known busy

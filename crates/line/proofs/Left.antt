@@ -6,29 +6,26 @@ use Prim.Native.Nat.{ℕ, ◌+◌, ◌≤◌}
 use native.Mathlib.Omega.{arith}
 use lib.Dec.{eqb}
 use lib.IntN.{ℤ, ◌-ℤ◌}
-use lib.Signed.{le_z}
 use Rattle.laws.specs.Choice.{bit}
 use Rattle.laws.proofs.Tests.{if_ind, clash, never}
 use Rattle.weight.specs.Weight.{is_weight}
 use Rattle.mask.specs.Bits.{marked}
-use Rattle.settings.specs.Grade.{grade_of}
 use Rattle.settings.specs.declared.Settings.{Settings}
 use Rattle.bench.specs.Bench.{disarmed}
-use Rattle.detector.specs.Foreign.{due, oldest_used}
+use Rattle.detector.specs.Foreign.{oldest_used}
 use Rattle.status.specs.Status.{ninth_error, error_for}
 use Rattle.item.specs.Item.{in_hand, item_fit}
 use Rattle.item.specs.declared.Item.TheVariants.{None}
 use Rattle.item.specs.declared.Weighed.{Weighed}
 use Rattle.item.proofs.Left.{left, new-left, Falls, still, mean, weighing-falls}
 use Rattle.line.specs.Line.{with_foreign, with_item, with_bench}
-use Rattle.line.specs.Effect.{halting}
-use Rattle.line.specs.Verdict.{sorted_for, stopped_for, given, or_crash, verdict_of, judged}
+use Rattle.line.specs.Effect.{Effect, halting}
+use Rattle.line.specs.Verdict.{sorted_for, stopped_for, given, judged}
 use Rattle.line.specs.Sample.{on_bench, step4, step5, step6, after_weighing, box_taken, step7, ninth_signal, unless_ninth, running_tick}
 use Rattle.line.specs.declared.sample.Tick.{Tick}
 use Rattle.line.specs.declared.line.Line.{Line}
-use Rattle.line.specs.declared.effect.Effect.{Effect}
-use Rattle.line.proofs.Moves.{Judged, grade_judged, foreign-judged, crash-judged}
-use Rattle.line.proofs.Ticks.{given-same, seven_ind}
+use Rattle.line.proofs.Moves.{Judged}
+use Rattle.line.proofs.Ticks.{given-same, judged_ind, seven_ind}
 
 abbrev pub left_on : Line → ℕ
 left_on l = left l.item l.setup.ta
@@ -96,15 +93,12 @@ given_sixth m k v net s n h j =
     }
 
 judged_sixth : (m : Line) (a : Settings) (x : ℤ) → is_ninth m.error ≡ false → left_on m ≤ 1 → Sixth m (judged (with_item m None) a x)
-unfolding judged verdict_of
 judged_sixth m a x n h =
     let k = with_item m None in
-    let net = x -ℤ a.tare in
-    if_ind (Sixth m) (le_z x a.nearzero) _ _
-    (λ _. record { setup = refl; on = n; detected = refl; falls = λ _ z. absurd (omega (arith, z)); last = λ _. h })
-    (λ _. if_ind (Sixth m) (due m.foreign) _ _
-    (λ _. given_sixth m (with_foreign k (oldest_used m.foreign)) (or_crash k 6) net refl n h (crash-judged k 6 foreign-judged))
-    (λ _. given_sixth m k (or_crash k (grade_of a net)) net refl n h (crash-judged k (grade_of a net) (grade_judged a net))))
+    judged_ind (Sixth m) m a x
+    (record { setup = refl; on = n; detected = refl; falls = λ _ z. absurd (omega (arith, z)); last = λ _. h })
+    (λ v _ _ j _. given_sixth m (with_foreign k (oldest_used m.foreign)) v (x -ℤ a.tare) refl n h j)
+    (λ v _ _ j _. given_sixth m k v (x -ℤ a.tare) refl n h j)
 
 weighed_sixth : (m : Line) (a : Settings) {w : Weighed} → is_ninth m.error ≡ false → Falls m.item m.setup.ta w → Sixth m (after_weighing m a w)
 unfolding after_weighing

@@ -7,4 +7,3 @@ pub mod Signals
 pub mod Sorting
 pub mod Bench
 pub mod Left
-pub mod Flags

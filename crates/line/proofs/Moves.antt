@@ -1,5 +1,5 @@
 -- What one event does to the box in hand and to one that comes. Assumes nothing.
-use mathlib.Core.Path.{◌≡◌, refl}
+use mathlib.Core.Path.{◌≡◌}
 use mathlib.Core.Bool.{true, false, ◌||◌}
 use Prim.Native.Nat.{ℕ}
 use lib.Dec.{eqb}
@@ -10,7 +10,6 @@ use Rattle.laws.proofs.Tests.{if_ind}
 use Rattle.settings.specs.Grade.{grade_of}
 use Rattle.settings.specs.declared.Settings.{Settings}
 use Rattle.sorters.specs.Sorters.{any_blocks}
-use Rattle.event.specs.Setup.{sorter_setups}
 use Rattle.line.specs.Verdict.{or_crash}
 use Rattle.line.specs.declared.line.Line.{Line}
 
@@ -37,14 +36,14 @@ pub data Moves : ℕ → ℕ → ℕ → ℕ → Type 0 where
 pub grade_judged : (a : Settings) (net : ℤ) → Judged (grade_of a net)
 unfolding grade_of
 grade_judged a net =
-    if_ind Judged (lt_z net a.lolo) _ _ (λ _. record { one = refl; not7 = refl; not9 = refl; not10 = refl; not0 = refl })
-    (λ _. if_ind Judged (lt_z net a.lo) _ _ (λ _. record { one = refl; not7 = refl; not9 = refl; not10 = refl; not0 = refl })
-    (λ _. if_ind Judged (le_z net a.hi) _ _ (λ _. record { one = refl; not7 = refl; not9 = refl; not10 = refl; not0 = refl })
-    (λ _. if_ind Judged (le_z net a.hihi) 4 5 (λ _. record { one = refl; not7 = refl; not9 = refl; not10 = refl; not0 = refl }) (λ _. record { one = refl; not7 = refl; not9 = refl; not10 = refl; not0 = refl }))))
+    if_ind Judged (lt_z net a.lolo) _ _ (λ _. assumption)
+    (λ _. if_ind Judged (lt_z net a.lo) _ _ (λ _. assumption)
+    (λ _. if_ind Judged (le_z net a.hi) _ _ (λ _. assumption)
+    (λ _. if_ind Judged (le_z net a.hihi) 4 5 (λ _. assumption) (λ _. assumption))))
 
 pub foreign-judged : Judged 6
-foreign-judged = record { one = refl; not7 = refl; not9 = refl; not10 = refl; not0 = refl }
+foreign-judged = assumption
 
 pub crash-judged : (l : Line) (v : ℕ) → Judged v → Judged (or_crash l v)
 unfolding or_crash
-crash-judged l v j = if_ind Judged (any_blocks v l.sorters (sorter_setups l.setup)) 8 v (λ _. record { one = refl; not7 = refl; not9 = refl; not10 = refl; not0 = refl }) (λ _. j)
+crash-judged l v j = if_ind Judged (any_blocks v l.sorters l.setup.sorters) 8 v (λ _. assumption) (λ _. j)

@@ -3,31 +3,25 @@
 use mathlib.Core.Path.{◌≡◌, refl, sym, ◌∙◌}
 use mathlib.Core.Bool.{true}
 use Prim.Native.Nat.{ℕ}
-use lib.IntN.{ℤ, pos, ◌-ℤ◌}
-use lib.Signed.{le_z}
+use lib.IntN.{ℤ, pos}
 use Rattle.laws.proofs.Tests.{if_ind, never}
 use Rattle.mask.specs.Bits.{marked}
-use Rattle.settings.specs.Grade.{grade_of}
-use Rattle.settings.specs.declared.Settings.{Settings}
-use Rattle.event.specs.Setup.{sorter_setups}
 use Rattle.sorters.specs.Sorters.{all_ticked, all_entered}
 use Rattle.sorters.proofs.Keeps.{none-entered}
-use Rattle.detector.specs.Foreign.{due, oldest_used}
+use Rattle.detector.specs.Foreign.{oldest_used}
 use Rattle.item.specs.Item.{in_hand}
 use Rattle.item.specs.declared.Item.TheVariants.{None}
-use Rattle.item.specs.declared.Weighed.{Weighed}
-use Rattle.item.specs.declared.Weighed.TheVariants.{Still, Mean}
 use Rattle.line.specs.Line.{with_foreign, with_item}
-use Rattle.line.specs.Verdict.{sorted_for, stopped_for, given, or_crash, verdict_of, judged}
-use Rattle.line.specs.Sample.{step4, step5, step6, on_bench, after_weighing, box_taken, step7, ninth_signal, unless_ninth, running_tick}
+use Rattle.line.specs.Verdict.{sorted_for, stopped_for, given}
+use Rattle.line.specs.Sample.{step4, step5, step6, on_bench, box_taken, step7, ninth_signal, unless_ninth, running_tick}
 use Rattle.line.specs.declared.sample.Tick.{Tick}
 use Rattle.line.specs.declared.line.Line.{Line}
-use Rattle.line.specs.declared.effect.Effect.{Effect}
-use Rattle.line.proofs.Ticks.{given-same, seven_ind}
+use Rattle.line.specs.Effect.{Effect}
+use Rattle.line.proofs.Ticks.{given-same, six_ind, seven_ind}
 
 -- the sorters after an effect are those of m, with its outcome entered; m's setup stays
 abbrev Entered : Line → Effect → Type 0
-Entered m e = e.line.sorters ≡ all_entered e.outcome m.sorters (sorter_setups m.setup)
+Entered m e = e.line.sorters ≡ all_entered e.outcome m.sorters m.setup.sorters
 
 record Sorted (m : Line) (e : Effect) : Type 0 where
   entered : Entered m e
@@ -40,7 +34,7 @@ stopped-sorters : (l : Line) (v : ℕ) → (stopped_for l v).sorters ≡ l.sorte
 unfolding stopped_for
 stopped-sorters l v = if_ind (λ (k : Line). k.sorters ≡ l.sorters) (marked l.setup.stop v) _ _ (λ _. refl) (λ _. refl)
 
-given-sorters : (k : Line) (d v : ℕ) (net : ℤ) → (given k d v net).line.sorters ≡ all_entered v k.sorters (sorter_setups k.setup)
+given-sorters : (k : Line) (d v : ℕ) (net : ℤ) → (given k d v net).line.sorters ≡ all_entered v k.sorters k.setup.sorters
 unfolding given sorted_for
 given-sorters k d v net = stopped-sorters (sorted_for k v) v
 
@@ -53,35 +47,19 @@ given-sorted m k v net i s p =
       held = λ h. never (rw ((given-same k 0 v net).item ∙ i) at h);
     }
 
-verdict-sorted : (m : Line) (a : Settings) (net : ℤ) → Sorted m (verdict_of (with_item m None) a net)
-unfolding verdict_of
-verdict-sorted m a net =
-    let k = with_item m None in
-    if_ind (Sorted m) (due m.foreign) _ _
-    (λ _. given-sorted m (with_foreign k (oldest_used m.foreign)) (or_crash k 6) net refl refl refl)
-    (λ _. given-sorted m k (or_crash k (grade_of a net)) net refl refl refl)
-
-judged-sorted : (m : Line) (a : Settings) (x : ℤ) → Sorted m (judged (with_item m None) a x)
-unfolding judged
-judged-sorted m a x =
-    if_ind (Sorted m) (le_z x a.nearzero) _ _
-    (λ _. record { entered = sym (none-entered 9 refl m.sorters (sorter_setups m.setup)); setup = refl; held = λ p. never p })
-    (λ _. verdict-sorted m a (x -ℤ a.tare))
-
-weighed-sorted : (m : Line) (a : Settings) (w : Weighed) → Sorted m (after_weighing m a w)
-unfolding after_weighing
-weighed-sorted m a (Still i) =
-    record { entered = sym (none-entered 0 refl m.sorters (sorter_setups m.setup)); setup = refl; held = λ _. refl }
-weighed-sorted m a (Mean x) = judged-sorted m a x
-
 six-sorted : (m : Line) (t : Tick) → Sorted m (step6 m t)
-unfolding step6
-six-sorted m t = weighed-sorted m t.active _
+six-sorted m t =
+    let k = with_item m None in
+    six_ind (Sorted m) m t
+    (λ _. record { entered = sym (none-entered 0 refl m.sorters m.setup.sorters); setup = refl; held = λ _. refl })
+    (record { entered = sym (none-entered 9 refl m.sorters m.setup.sorters); setup = refl; held = λ p. never p })
+    (λ v net _ _ _. given-sorted m (with_foreign k (oldest_used m.foreign)) v net refl refl refl)
+    (λ v net _ _ _. given-sorted m k v net refl refl refl)
 
 two-on-entered : (m : Line) (e : Effect) → Sorted m e → in_hand e.line.item ≡ true → Entered m (given (with_item e.line None) 1 7 (pos 0))
 unfolding given
 two-on-entered m e s h =
-    let before : e.line.sorters ≡ m.sorters = rw (s.held h) at s.entered ∙ none-entered 0 refl m.sorters (sorter_setups m.setup) in
+    let before : e.line.sorters ≡ m.sorters = rw (s.held h) at s.entered ∙ none-entered 0 refl m.sorters m.setup.sorters in
     given-sorters (with_item e.line None) 1 7 (pos 0) ∙ rw (before, s.setup) refl
 
 seven-entered : (m : Line) (e : Effect) (t : Tick) → Sorted m e → Entered m (step7 e t)
@@ -91,10 +69,10 @@ seven-entered m e t s =
 
 pub tick-sorts : (k : Line) (t : Tick)
     → (running_tick k t).line.sorters
-    ≡ all_entered (running_tick k t).outcome (all_ticked k.sorters (sorter_setups k.setup)) (sorter_setups k.setup)
+    ≡ all_entered (running_tick k t).outcome (all_ticked k.sorters k.setup.sorters) k.setup.sorters
 unfolding running_tick unless_ninth on_bench step4 step5
 tick-sorts k t =
     let m = step5 (step4 (on_bench k t)) t in
     if_ind (Entered m) (ninth_signal k t) _ _
-    (λ _. sym (none-entered 0 refl m.sorters (sorter_setups m.setup)))
+    (λ _. sym (none-entered 0 refl m.sorters m.setup.sorters))
     (λ _. seven-entered m (step6 m t) t (six-sorted m t))

@@ -1,12 +1,12 @@
 -- A sample and the other events on the line alone: the line stays fit and keeps its code and its chance to cancel, the boxes are
 -- level, the net is a weight. Assumes nothing.
 use mathlib.Core.Path.{◌≡◌, refl, sym, subst, ◌∙◌}
-use mathlib.Core.Bool.{Bool, true, false, ◌&&◌, not}
+use mathlib.Core.Bool.{Bool, true, false, ◌&&◌, ◌||◌, not}
 use mathlib.Core.Logic.{◌⊎◌, inl, inr, ⊎_elim}
 use Prim.Native.Nat.{ℕ}
 use lib.Dec.{eqb, T}
 use lib.IntN.{ℤ, pos, ◌-ℤ◌}
-use lib.Signed.{le_z}
+use lib.Signed.{lt_z, le_z}
 use borrow.Author.Tests.{eqb-true, not-true}
 use Rattle.laws.specs.Choice.{when◌then◌else◌, bit}
 use Rattle.weight.specs.Weight.{is_weight}
@@ -23,20 +23,22 @@ use Rattle.detector.proofs.Signals.{used_fit}
 use Rattle.event.specs.Setup.{is_bench}
 use Rattle.event.specs.declared.Sample.{Sample}
 use Rattle.event.proofs.Facts.{timers, InRange}
-use Rattle.tally.specs.Tally.{is_grade}
+use Rattle.verdict.specs.Verdict.{is_grade}
 use Rattle.status.specs.Status.{stopped, running, paused, emergency, ninth_error, error_known}
 use Rattle.line.specs.Line.{is_running, busy, with_status, with_foreign, with_item, with_bench}
 use Rattle.event.specs.Reply.{no_error}
-use Rattle.item.specs.Item.{in_hand, item_fit, new_item}
-use Rattle.line.specs.Effect.{plain, halted, halting}
+use Rattle.item.specs.Item.{in_hand, item_fit, new_item, weighed}
+use Rattle.sorters.specs.Sorters.{any_blocks}
+use Rattle.line.specs.Effect.{Effect, plain, dismissed, halted, halting}
 use Rattle.line.specs.Verdict.{sorted_for, stopped_for, given, or_crash, verdict_of, judged}
 use Rattle.line.specs.Sample.{step1, step2, step3, on_bench, step4, step5, step6, step7, after_weighing, box_taken, detecting, by_sensor, by_hand, ninth_signal, unless_ninth, running_tick, guarded, from_step3, sampled, tick_of}
 use Rattle.line.specs.Command.{ran, stopping, alarmed}
 use Rattle.line.specs.declared.sample.Tick.{Tick}
 use Rattle.line.specs.declared.line.Line.{Line}
-use Rattle.line.specs.declared.effect.Effect.{Effect}
 use Rattle.item.specs.declared.Item.TheVariants.{None}
 use Rattle.item.specs.declared.Weighed.{Weighed}
+use Rattle.item.specs.declared.Weighed.TheVariants.{Still, Mean}
+use Rattle.item.specs.declared.Item.{Item}
 use Rattle.line.proofs.Facts.{FitLine}
 use Rattle.line.proofs.Moves as moves
 use Rattle.line.proofs.Moves.{Moves, Judged, grade_judged, foreign-judged, crash-judged}
@@ -81,12 +83,12 @@ pub record Same (l m : Line) : Type 0 where
 
 sorted-same : (l : Line) (v : ℕ) → Same l (sorted_for l v)
 unfolding sorted_for
-sorted-same l v = record { code = refl; undo = refl; item = refl; foreign = refl; setup = refl; bench = refl }
+sorted-same l v = assumption
 
 stopped-same : (l : Line) (v : ℕ) → Same l (stopped_for l v)
 unfolding stopped_for
 stopped-same l v =
-    if_ind (Same l) (marked l.setup.stop v) _ _ (λ _. record { code = refl; undo = refl; item = refl; foreign = refl; setup = refl; bench = refl }) (λ _. record { code = refl; undo = refl; item = refl; foreign = refl; setup = refl; bench = refl })
+    if_ind (Same l) (marked l.setup.stop v) _ _ (λ _. assumption) (λ _. assumption)
 
 pub given-same : (l : Line) (d v : ℕ) (net : ℤ) → Same l (given l d v net).line
 unfolding given
@@ -110,6 +112,60 @@ gives l d v net r w =
     }
 
 -- ---- step 6
+
+-- what an outcome uses up of the signals, where d says whether one has ended
+abbrev pub used_of : Bool → ℕ → ℕ
+used_of d o = bit (eqb o 6 || eqb o 8 && d)
+
+crash_uses : (l : Line) (d : Bool) (v n : ℕ) → used_of d 8 ≡ n → used_of d v ≡ n → used_of d (or_crash l v) ≡ n
+unfolding or_crash
+crash_uses l d v n c h = if_ind (λ (o : ℕ). used_of d o ≡ n) (any_blocks v l.sorters l.setup.sorters) 8 v (λ _. c) (λ _. h)
+
+grade_uses : (a : Settings) (net : ℤ) → used_of false (grade_of a net) ≡ 0
+unfolding grade_of
+grade_uses a net =
+    if_ind None-used (lt_z net a.lolo) _ _ (λ _. refl)
+    (λ _. if_ind None-used (lt_z net a.lo) _ _ (λ _. refl)
+    (λ _. if_ind None-used (le_z net a.hi) _ _ (λ _. refl)
+    (λ _. if_ind None-used (le_z net a.hihi) 4 5 (λ _. refl) (λ _. refl))))
+  where
+    None-used : ℕ → Type 0
+    None-used o = used_of false o ≡ 0
+
+-- what can come of a box with mean x: it is dismissed, or has the verdict of an ended signal, which is used up, or that of its net
+pub judged_ind :
+    (P : Effect → Type 0) (m : Line) (a : Settings) (x : ℤ)
+    → let k = with_item m None in
+    let net = x -ℤ a.tare in
+    P (dismissed k)
+    → ((v : ℕ) → le_z x a.nearzero ≡ false → due m.foreign ≡ true → Judged v → used_of true v ≡ 1 → P (given (with_foreign k (oldest_used m.foreign)) 0 v net))
+    → ((v : ℕ) → le_z x a.nearzero ≡ false → due m.foreign ≡ false → Judged v → used_of false v ≡ 0 → P (given k 0 v net))
+    → P (judged k a x)
+unfolding judged verdict_of
+judged_ind P m a x none foreign grade =
+    let k = with_item m None in
+    let g = grade_of a (x -ℤ a.tare) in
+    if_ind P (le_z x a.nearzero) _ _
+    (λ _. none)
+    (λ w. if_ind P (due m.foreign) _ _
+    (λ d. foreign (or_crash k 6) w d (crash-judged k 6 foreign-judged) (crash_uses k true 6 1 refl refl))
+    (λ d. grade (or_crash k g) w d (crash-judged k g (grade_judged a _)) (crash_uses k false g 0 refl (grade_uses a _))))
+
+-- what step 6 can come to: an item in hand that ticked or none, and on its last tick one of these
+pub six_ind :
+    (P : Effect → Type 0) (m : Line) (t : Tick)
+    → let k = with_item m None in
+    ((i : Item) → P (plain (with_item m i)))
+    → P (dismissed k)
+    → ((v : ℕ) (net : ℤ) → due m.foreign ≡ true → Judged v → used_of true v ≡ 1 → P (given (with_foreign k (oldest_used m.foreign)) 0 v net))
+    → ((v : ℕ) (net : ℤ) → due m.foreign ≡ false → Judged v → used_of false v ≡ 0 → P (given k 0 v net))
+    → P (step6 m t)
+unfolding step6 after_weighing
+six_ind P m t goes none foreign grade = by_weighed (weighed m.item m.setup t.gross)
+  where
+    by_weighed : (w : Weighed) → P (after_weighing m t.active w)
+    by_weighed (Still i) = goes i
+    by_weighed (Mean x) = judged_ind P m t.active x none (λ v _ d j u. foreign v _ d j u) (λ v _ d j u. grade v _ d j u)
 
 -- nothing came of it yet
 pub record Stays (l : Line) (e : Effect) : Type 0 where
@@ -146,22 +202,15 @@ judged-ends l k v net r c u i w j n =
       net = g.net;
     }
 
-verdict-ends : (l : Line) (a : Settings) (net : ℤ) → Running (with_item l None) → in_hand l.item ≡ true → is_weight net ≡ true → Ends l (verdict_of (with_item l None) a net)
-unfolding verdict_of oldest_used
-verdict-ends l a net r w n =
-    let k = with_item l None in
-    if_ind (Ends l) (due l.foreign) _ _
-    (λ _. judged-ends l (with_foreign k (oldest_used l.foreign)) (or_crash k 6) net
-    (with_foreign_lem k (oldest_used l.foreign) r (used_fit l.foreign r.fit.foreign)) refl refl refl w
-    (crash-judged k 6 foreign-judged) n)
-    (λ _. judged-ends l k (or_crash k (grade_of a net)) net r refl refl refl w (crash-judged k (grade_of a net) (grade_judged a net)) n)
-
 mean-ends : (l : Line) (a : Settings) (m : ℤ) → Running (with_item l None) → in_hand l.item ≡ true → record_fit a ≡ true → is_weight m ≡ true → Ends l (judged (with_item l None) a m)
-unfolding judged
+unfolding oldest_used
 mean-ends l a m r w f h =
-    if_ind (Ends l) (le_z m a.nearzero) _ _
-    (λ _. record { fit = r.fit; code = refl; undo = refl; was = w; none = refl; detected = refl; outcome = inr refl; net = refl })
-    (λ g. verdict-ends l a (m -ℤ a.tare) r w (net-weight a m f h g))
+    let k = with_item l None in
+    judged_ind (Ends l) l a m
+    (record { fit = r.fit; code = refl; undo = refl; was = w; none = refl; detected = refl; outcome = inr refl; net = refl })
+    (λ v g _ j _. judged-ends l (with_foreign k (oldest_used l.foreign)) v (m -ℤ a.tare)
+    (with_foreign_lem k (oldest_used l.foreign) r (used_fit l.foreign r.fit.foreign)) refl refl refl w j (net-weight a m f h g))
+    (λ v g _ j _. judged-ends l k v (m -ℤ a.tare) r refl refl refl w j (net-weight a m f h g))
 
 after_weighing_lem : (l : Line) (a : Settings) {w : Weighed} → Running l → record_fit a ≡ true → Weighs l.item l.setup w → Stays l (after_weighing l a w) ⊎ Ends l (after_weighing l a w)
 unfolding after_weighing item_fit
@@ -346,20 +395,7 @@ unfolding ran
 run_goes l f =
     let b = begun l.bench (eqb l.status stopped) in
     let k = with_bench (with_status l running no_error) b in
-    plain_goes l k
-    (record {
-      code = f.code;
-      setup = f.setup;
-      last = f.last;
-      sensor = f.sensor;
-      status = running-status k refl refl;
-      sorters = f.sorters;
-      foreign = f.foreign;
-      item = f.item;
-      undo = f.undo;
-      bench = begun-fit l.bench (eqb l.status stopped);
-    })
-    refl refl refl
+    plain_goes l k (assumption (f, running-status k refl refl, begun-fit l.bench (eqb l.status stopped))) refl refl refl
 
 pub stop_goes : (l : Line) → FitLine l → Went l (stopping l)
 unfolding stopping error_known

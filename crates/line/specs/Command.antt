@@ -5,9 +5,8 @@ use Rattle.status.specs.Status.{stopped, running, paused, emergency, plain_error
 use Rattle.line.specs.Line.{is_running, busy, with_status, with_bench}
 use Rattle.bench.specs.Bench.{begun}
 use Rattle.event.specs.Reply.{no_error}
-use Rattle.line.specs.Effect.{plain, halting}
+use Rattle.line.specs.Effect.{Effect, plain, halting}
 use Rattle.line.specs.declared.line.Line.{Line}
-use Rattle.line.specs.declared.effect.Effect.{Effect}
 
 -- "Run from stopped or paused sets running, error none"; 02, T-02: "A run accepted from stopped arms it"
 unfoldable pub ran : Line → Effect

@@ -1,5 +1,5 @@
 -- 01, "Line and memory": statuses, busy, the fresh line; and the line with one part anew.
-use Rattle.std.specs.Prelude.{ℕ, Bool, ◌||◌, List, eqb, pos}
+use Rattle.std.specs.Prelude.{ℕ, Bool, ◌||◌, List, eqb, pos, Option, None}
 use Rattle.laws.specs.Choice.{when◌then◌else◌}
 use Rattle.status.specs.Status.{stopped, running, conveyor_runs}
 use Rattle.bench.specs.Bench.{fresh_bench}
@@ -14,9 +14,8 @@ use Rattle.event.specs.Setup.{fresh_setup}
 use Rattle.event.specs.declared.Setup.{Setup}
 use Rattle.item.specs.Item.{in_hand}
 use Rattle.item.specs.declared.Item.{Item}
-use Rattle.item.specs.declared.Item.TheVariants.{None}
-use Rattle.undo.specs.declared.Undo.{Undo}
-use Rattle.undo.specs.Undo.{nothing}
+use Rattle.item.specs.declared.Item.TheVariants as item
+use Rattle.part.specs.declared.part.Part.{Part}
 use Rattle.event.specs.declared.last.Last.{Last}
 use Rattle.line.specs.declared.line.Line.{Line}
 
@@ -46,9 +45,9 @@ fresh_line =
       sensor = record { level = 0; run = 0 };
       last = record { gross = pos 0; safety = 255; foreign = 0 };
       foreign = no_signal;
-      item = None;
+      item = item.None;
       sorters = all_off;
-      undo = nothing;
+      undo = None;
       bench = fresh_bench;
     }
 
@@ -75,7 +74,7 @@ with_item l i = record l { item = i }
 abbrev pub with_sorters : Line → List Sorter → Line
 with_sorters l ss = record l { sorters = ss }
 
-abbrev pub with_undo : Line → Undo → Line
+abbrev pub with_undo : Line → Option Part → Line
 with_undo l u = record l { undo = u }
 
 abbrev pub with_bench : Line → Bench → Line

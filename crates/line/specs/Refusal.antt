@@ -1,5 +1,5 @@
 -- 01, "Refusal numbers of the manual's kind": when each condition of the table holds.
-use Rattle.std.specs.Prelude.{ℕ, Bool, false, ◌&&◌, ◌||◌, not, List, ℤ, Option}
+use Rattle.std.specs.Prelude.{ℕ, Bool, false, ◌&&◌, ◌||◌, not, List, ℤ, Option, is_none}
 use Rattle.mask.specs.Bits.{lowest_off}
 use Rattle.refusal.specs.Table.{table, first_holding}
 use Rattle.refusal.specs.Rows.{lengths_wrong, reads_record, reads_tally, refused_running, refused_in_emergency, refused_paused, run_unsafe, run_occupied, nothing_to_cancel}
@@ -11,7 +11,6 @@ use Rattle.settings.specs.declared.Settings.{Settings}
 use Rattle.event.specs.Event.{event_ranged, event_agrees}
 use Rattle.event.specs.declared.Event.{Event}
 use Rattle.tallies.specs.Memory.{fit_at}
-use Rattle.undo.specs.Undo.{no_chance}
 use Rattle.line.specs.Fit.{line_fit}
 use Rattle.line.specs.declared.line.Line.{Line}
 
@@ -38,7 +37,7 @@ faults_of l count a ts e =
       contradiction = not (event_agrees e);
       safety = run_unsafe (input_off l) e;
       occupied = run_occupied l.status a.nearzero l.last.gross e;
-      nothing = nothing_to_cancel (no_chance l.undo) e;
+      nothing = nothing_to_cancel (is_none l.undo) e;
     }
 
 -- the refusal of an event, none if it is accepted

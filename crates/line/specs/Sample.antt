@@ -1,6 +1,7 @@
 -- 01, "Sample": the seven steps in order, where error 7 ends a tick, and bench mode.
 use Rattle.std.specs.Prelude.{ℕ, Bool, true, ◌&&◌, not, ◌≡◌, eqb, pos}
 use Rattle.laws.specs.Choice.{when◌then◌else◌}
+use Rattle.verdict.specs.Verdict as verdict
 use Rattle.weight.specs.Weight.{is_weight}
 use Rattle.mask.specs.Bits.{lowest_off}
 use Rattle.settings.specs.Settings.{record_fit}
@@ -8,7 +9,7 @@ use Rattle.settings.specs.declared.Settings.{Settings}
 use Rattle.device.specs.Sensor.{settled}
 use Rattle.sorters.specs.Sorters.{all_ticked}
 use Rattle.detector.specs.Foreign.{eight_carried, foreign_ticked}
-use Rattle.event.specs.Setup.{setup_fit, is_bench, sorter_setups}
+use Rattle.event.specs.Setup.{setup_fit, is_bench}
 use Rattle.event.specs.declared.Sample.{Sample}
 use Rattle.bench.specs.Bench.{ticked_on, detects, disarmed}
 use Rattle.status.specs.Status.{stopped, paused, emergency, unsafe_error, ninth_error}
@@ -17,11 +18,10 @@ use Rattle.item.specs.declared.Item.TheVariants.{None}
 use Rattle.item.specs.declared.Weighed.{Weighed}
 use Rattle.item.specs.declared.Weighed.TheVariants.{Still, Mean}
 use Rattle.line.specs.Line.{is_running, with_status, with_sensed, with_foreign, with_item, with_sorters, with_bench}
-use Rattle.line.specs.Effect.{plain, halting}
+use Rattle.line.specs.Effect.{Effect, plain, halting}
 use Rattle.line.specs.Verdict.{given, judged}
 use Rattle.line.specs.declared.sample.Tick.{Tick}
 use Rattle.line.specs.declared.line.Line.{Line}
-use Rattle.line.specs.declared.effect.Effect.{Effect}
 
 -- 1. "Gross, safety and foreign level are kept as the last. The settled sensor level .., running or not"
 unfoldable pub step1 : Line → Sample → Line
@@ -71,7 +71,7 @@ on_bench l t = with_bench l (when is_bench l.setup then ticked_on l.bench t.gros
 
 -- 4. the on-times and waits of the sorters
 unfoldable pub step4 : Line → Line
-step4 l = with_sorters l (all_ticked l.sorters (sorter_setups l.setup))
+step4 l = with_sorters l (all_ticked l.sorters l.setup.sorters)
 
 -- 5. 02, T-04: "Step 5 lets all delays fall and counts those that ended."; then a change 0 to 1 is one signal more
 unfoldable pub step5 : Line → Tick → Line
@@ -91,7 +91,7 @@ box_taken e l = record e { line = with_item l (new_item l.setup); detected = 1 }
 
 -- "detected. With an item in hand, both become one two-on verdict and nothing is in hand."
 unfoldable pub detecting : Effect → Effect
-detecting e = when in_hand e.line.item then given (with_item e.line None) 1 7 (pos 0) else box_taken e e.line
+detecting e = when in_hand e.line.item then given (with_item e.line None) 1 verdict.two_on (pos 0) else box_taken e e.line
 
 -- "and the settled level made the chosen edge in step 1"
 unfoldable pub by_sensor : Effect → Tick → Effect

@@ -3,6 +3,7 @@ use Rattle.std.specs.Prelude.{ℕ, List, ℤ, length, Option, Some, None, Err}
 use Rattle.settings.specs.declared.Settings.{Settings}
 use Rattle.event.specs.Reply.{Reply, no_error}
 use Rattle.event.specs.declared.Event.{Event}
+use Rattle.event.specs.declared.Stored.{Stored}
 use Rattle.event.specs.declared.Event.TheVariants.{Sample, Run, Stop, Emergency, Recall, Cancel, ClearCode, ClearAll, ErrorReset, NoOperation, Setup, Store}
 use Rattle.refusal.specs.Table.{number_of}
 use Rattle.refusal.specs.declared.Refusal.{Refusal}
@@ -17,8 +18,8 @@ use Rattle.line.specs.Refusal.{refusal_of, input_of}
 use Rattle.line.specs.declared.line.Line.{Line}
 
 -- "replaces one code's settings"
-abbrev pub storing : Line → List ℤ → ℕ → Settings → Out
-storing l ts c s = record { line = l; storing = Some (record { code = c; settings = s }); tallies = ts; reply = replied (plain l) 0 }
+abbrev pub storing : Line → List ℤ → Stored → Out
+storing l ts s = record { line = l; storing = Some s; tallies = ts; reply = replied (plain l) 0 }
 
 -- an accepted event; a is the active code's record
 unfoldable pub accepted : Line → Settings → List ℤ → Event → Out
@@ -33,7 +34,7 @@ accepted l a ts ClearAll = cleared_all l ts
 accepted l a ts ErrorReset = untallied (plain (with_status l l.status no_error)) ts
 accepted l a ts NoOperation = untallied (plain l) ts
 accepted l a ts (Setup s) = untallied (plain (with_setup l s)) ts
-accepted l a ts (Store c s) = storing l ts c s
+accepted l a ts (Store s) = storing l ts s
 
 -- "The reply has the number and input .. Nothing else alters."
 abbrev pub refused : Line → List ℤ → Refusal → Out

@@ -13,8 +13,8 @@ use settings::Settings;
 impl Line {
     // 8 memory does not hold.
     #[tactic(auto, unfolding(crate::specs::Refusal::memory_sound))]
-    fn memory_sound(self, count: u64, active: Settings, tallies: &[i64], e: Event) -> bool
-        ensures { result ≡ memory_sound self count active tallies.now e }
+    fn memory_sound(&self, count: u64, active: Settings, tallies: &[i64], e: Event) -> bool
+        ensures { result ≡ memory_sound self.now count active tallies.now e }
     {
         !lengths_wrong(count, tallies)
             && self.fit()
@@ -23,35 +23,25 @@ impl Line {
     }
 
     // The lowest required input that is off in the last sample.
-    fn input_off(self) -> u64
-        ensures { result ≡ input_off self }
+    pub(crate) fn input_off(&self) -> u64
+        ensures { result ≡ input_off self.now }
     {
         mask::lowest_off(self.setup.need, self.last.safety)
     }
 
-    // Of a sample only two conditions can hold, and most events are samples.
+    // The refusal of an event: the first condition that holds.
     #[tactic(auto, unfolding(crate::specs::Refusal::refusal_of))]
     pub(crate) fn refusal(
-        self,
+        &self,
         count: u64,
         active: Settings,
         tallies: &[i64],
         e: Event,
     ) -> Option<Refusal>
-        ensures { result ≡ refusal_of self count active tallies.now e }
+        ensures { result ≡ refusal_of self.now count active tallies.now e }
     {
-        let sound = self.memory_sound(count, active, tallies, e);
-        if let Event::Sample(s) = e {
-            if !sound {
-                return Some(Refusal::Memory);
-            }
-            if !s.ranged() {
-                return Some(Refusal::Value);
-            }
-            return None;
-        }
         let faults = Faults {
-            memory: !sound,
+            memory: !self.memory_sound(count, active, tallies, e),
             form: false,
             value: !e.ranged(),
             running: refused_running(self.status, e),
@@ -60,15 +50,15 @@ impl Line {
             contradiction: !e.agrees(),
             safety: run_unsafe(self.input_off(), e),
             occupied: run_occupied(self.status, active.nearzero, self.last.gross, e),
-            nothing: nothing_to_cancel(self.undo.is_nothing(), e),
+            nothing: nothing_to_cancel(self.undo.is_none(), e),
         };
         faults.first()
     }
 
     // The lowest required input that is off, for refusal 5 alone.
     #[tactic(auto, unfolding(crate::specs::Refusal::input_of))]
-    pub(crate) fn input(self, refusal: Refusal) -> u64
-        ensures { result ≡ input_of self refusal }
+    pub(crate) fn input(&self, refusal: Refusal) -> u64
+        ensures { result ≡ input_of self.now refusal }
     {
         if refusal == Refusal::Safety {
             return self.input_off();

@@ -10,8 +10,8 @@ use status::error_known;
 impl Line {
     // Error none unless paused; stopped or in emergency nothing is in hand, queued or on.
     #[tactic(auto, unfolding(crate::specs::Fit::status_fit))]
-    fn status_fit(self) -> bool
-        ensures { result ≡ status_fit self }
+    fn status_fit(&self) -> bool
+        ensures { result ≡ status_fit self.now }
     {
         let halted = (self.status == Line::STOPPED) | (self.status == Line::EMERGENCY);
         (self.status <= 3)
@@ -21,8 +21,8 @@ impl Line {
     }
 
     #[tactic(auto, unfolding(crate::specs::Fit::line_fit))]
-    pub(crate) fn fit(self) -> bool
-        ensures { result ≡ line_fit self }
+    pub(crate) fn fit(&self) -> bool
+        ensures { result ≡ line_fit self.now }
     {
         is_code(self.code)
             & self.setup.fit()
@@ -32,7 +32,7 @@ impl Line {
             & all_fit(self.sorters)
             & self.foreign.fit()
             & self.item.fit(self.setup)
-            & self.undo.fit()
+            & undo::fit(self.undo)
             & self.bench.fit()
     }
 }

@@ -6,14 +6,11 @@ mod command;
 mod effect;
 mod faults;
 mod fit;
+mod judging;
 mod line;
 mod sample;
 mod step;
-mod stored;
 mod tallying;
-mod verdict;
 
-pub use effect::Effect;
 pub use line::Line;
 pub use step::Step;
-pub use stored::Stored;

@@ -1,19 +1,18 @@
-// The line's record. An event takes it and gives back the next one.
+// The line's record.
 ghost use Rattle.std.specs.Prelude.{◌≡◌};
-ghost use Rattle.line.specs.Line.{busy, conveyor, sorter_field, fresh_line, with_status, with_code, with_setup, with_sensed, with_foreign, with_item, with_sorters, with_undo, with_bench};
+ghost use Rattle.line.specs.Line.{busy, conveyor, sorter_field, fresh_line, with_status};
 
 use bench::Bench;
 use detector::Foreign;
 use device::{Sensor, Sorter};
 use event::{Done, Last, Setup};
 use item::Item;
+use part::Part;
 use queue::Queue;
 use sorters::{all_off, any_sorting, on_bits};
 use status::conveyor_runs;
 use tally::Tally;
-use undo::Undo;
 
-// What stands behind the item is copied with the seven bytes behind its tag, as a block: so the undo and the bench stand before it.
 #[derive(Clone, Copy)]
 pub struct Line {
     // 0 stopped, 1 running, 2 paused, 3 emergency; a number, as error is, since any line can be lent and an unfit one is refused
@@ -26,11 +25,12 @@ pub struct Line {
     pub sensor: Sensor,
     pub last: Last,
     pub foreign: Foreign,
-    pub undo: Undo,
-    pub bench: Bench,
     pub item: Item,
     // sorter k stands at k - 1
     pub sorters: [Sorter; Setup::SORTERS],
+    // the active code's part as before the last verdict, as long as that can be cancelled
+    pub undo: Option<Part>,
+    pub bench: Bench,
 }
 
 impl Line {
@@ -79,39 +79,32 @@ impl Line {
                 foreign: 0,
             },
             foreign: Foreign::none(),
-            undo: Undo::nothing(),
-            bench: Bench::fresh(),
             item: Item::None,
             sorters: all_off(),
+            undo: None,
+            bench: Bench::fresh(),
         }
-    }
-
-    // The active code by a call of its own: `apply` passes the line whole, and reads no field of it.
-    pub(crate) fn active_code(self) -> u64
-        ensures { result ≡ self.code }
-    {
-        self.code
     }
 
     // An item is in hand, a queue isn't empty, or a sorter is on.
     #[tactic(auto, unfolding(crate::specs::Line::busy))]
-    pub(crate) fn busy(self) -> bool
-        ensures { result ≡ busy self }
+    pub(crate) fn busy(&self) -> bool
+        ensures { result ≡ busy self.now }
     {
         self.item.in_hand() | any_sorting(self.sorters)
     }
 
     #[tactic(auto, unfolding(crate::specs::Line::conveyor))]
-    pub(crate) fn conveyor(self) -> bool
-        ensures { result ≡ conveyor self }
+    pub(crate) fn conveyor(&self) -> bool
+        ensures { result ≡ conveyor self.now }
     {
         conveyor_runs(self.status, self.setup.mode, self.item.in_hand())
     }
 
     // The reply's sorter field: while running, which sorters are on.
     #[tactic(auto, unfolding(crate::specs::Line::sorter_field))]
-    pub(crate) fn sorter_field(self) -> u64
-        ensures { result ≡ sorter_field self }
+    pub(crate) fn sorter_field(&self) -> u64
+        ensures { result ≡ sorter_field self.now }
     {
         if self.status == Line::RUNNING {
             return on_bits(self.sorters);
@@ -119,68 +112,10 @@ impl Line {
         0
     }
 
-    pub(crate) fn with_status(mut self, status: u64, error: u64) -> Line
-        ensures { result ≡ with_status self status error }
+    pub(crate) fn set_status(&mut self, status: u64, error: u64)
+        ensures { self.new ≡ with_status self.old status error }
     {
         self.status = status;
         self.error = error;
-        self
-    }
-
-    pub(crate) fn with_code(mut self, code: u64) -> Line
-        ensures { result ≡ with_code self code }
-    {
-        self.code = code;
-        self
-    }
-
-    pub(crate) fn with_setup(mut self, setup: Setup) -> Line
-        ensures { result ≡ with_setup self setup }
-    {
-        self.setup = setup;
-        self
-    }
-
-    pub(crate) fn with_sensed(mut self, sensor: Sensor, last: Last) -> Line
-        ensures { result ≡ with_sensed self sensor last }
-    {
-        self.sensor = sensor;
-        self.last = last;
-        self
-    }
-
-    pub(crate) fn with_foreign(mut self, foreign: Foreign) -> Line
-        ensures { result ≡ with_foreign self foreign }
-    {
-        self.foreign = foreign;
-        self
-    }
-
-    pub(crate) fn with_sorters(mut self, sorters: [Sorter; Setup::SORTERS]) -> Line
-        ensures { result ≡ with_sorters self sorters }
-    {
-        self.sorters = sorters;
-        self
-    }
-
-    pub(crate) fn with_item(mut self, item: Item) -> Line
-        ensures { result ≡ with_item self item }
-    {
-        self.item = item;
-        self
-    }
-
-    pub(crate) fn with_undo(mut self, undo: Undo) -> Line
-        ensures { result ≡ with_undo self undo }
-    {
-        self.undo = undo;
-        self
-    }
-
-    pub(crate) fn with_bench(mut self, bench: Bench) -> Line
-        ensures { result ≡ with_bench self bench }
-    {
-        self.bench = bench;
-        self
     }
 }

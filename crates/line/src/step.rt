@@ -1,7 +1,6 @@
 // What an event hands back.
 use crate::line::Line;
-use crate::stored::Stored;
-use event::Reply;
+use event::{Reply, Stored};
 
 // The next line with the reply, and which settings record the event replaced, if any.
 #[derive(Clone, Copy)]

@@ -1,51 +1,35 @@
 // How a verdict changes the tallies and the chance to cancel.
-ghost use Rattle.std.specs.Prelude.{◌≡◌, []};
-ghost use Rattle.line.specs.Tallying.{step_in, untallied, noted, recorded};
+ghost use Rattle.std.specs.Prelude.{◌≡◌};
+ghost use Rattle.line.specs.Effect.{effect_of};
+ghost use Rattle.line.specs.Tallying.{noted, recorded};
 
-use crate::effect::Effect;
-use crate::step::Step;
+use crate::effect::Boxes;
+use crate::line::Line;
+use event::Reply;
 
-impl Effect {
-    // The next line with a reply that stores and tallies nothing.
-    pub(crate) fn untallied(self) -> Step
-        ensures { result ≡ step_in (untallied self []) }
-    {
-        Step {
-            line: self.line,
-            reply: self.replied(0),
-            storing: None,
-        }
-    }
-
+impl Line {
     // A verdict is tallied under the active code, whose target goes with it; the tally as before it is kept, and a full one
     // leaves nothing to cancel.
-    #[tactic(auto, unfolding(crate::specs::Tallying::noted))]
-    fn noted(self, target: i64, tallies: &mut [i64]) -> Step
-        ensures answer { result ≡ step_in (noted self target tallies.old) }
-        ensures memory { tallies.new ≡ (noted self target tallies.old).tallies }
+    #[tactic(auto, unfolding(crate::specs::Tallying::noted, crate::specs::Effect::replied, crate::specs::Line::busy, crate::specs::Line::conveyor, crate::specs::Line::sorter_field))]
+    fn noted(&mut self, boxes: Boxes, target: i64, tallies: &mut [i64]) -> Reply
+        ensures line { self.new ≡ (noted (effect_of self.old boxes) target tallies.old).line }
+        ensures reply { result ≡ (noted (effect_of self.old boxes) target tallies.old).reply }
+        ensures memory { tallies.new ≡ (noted (effect_of self.old boxes) target tallies.old).tallies }
     {
-        let undo = undo::note(tallies, self.line.code, self.outcome, self.net, target);
-        Step {
-            line: self.line.with_undo(undo),
-            reply: self.replied(undo.chance),
-            storing: None,
-        }
+        self.undo = undo::note(tallies, self.code, boxes.outcome, boxes.net, target);
+        self.replied(boxes, u64::from(self.undo.is_some()))
     }
 
-    // The verdict of this effect, if there is one, is noted.
+    // The verdict on a box, if one was given, is noted.
     #[tactic(auto, unfolding(crate::specs::Tallying::recorded))]
-    pub(crate) fn recorded(self, target: i64, tallies: &mut [i64]) -> Step
-        ensures answer { result ≡ step_in (recorded self target tallies.old) }
-        ensures memory { tallies.new ≡ (recorded self target tallies.old).tallies }
+    pub(crate) fn recorded(&mut self, boxes: Boxes, target: i64, tallies: &mut [i64]) -> Reply
+        ensures line { self.new ≡ (recorded (effect_of self.old boxes) target tallies.old).line }
+        ensures reply { result ≡ (recorded (effect_of self.old boxes) target tallies.old).reply }
+        ensures memory { tallies.new ≡ (recorded (effect_of self.old boxes) target tallies.old).tallies }
     {
-        if (1 <= self.outcome) & (self.outcome <= 8) {
-            return self.noted(target, tallies);
+        if verdict::is_verdict(boxes.outcome) {
+            return self.noted(boxes, target, tallies);
         }
-        // as `untallied`, which has other callers and so is not inlined: by a call of it a sample takes a fifth more instructions
-        Step {
-            line: self.line,
-            reply: self.replied(0),
-            storing: None,
-        }
+        self.replied(boxes, 0)
     }
 }

@@ -1,104 +1,103 @@
 -- The calls of an input, line by line: what is kept of the call that is being read, and what a line prints.
-use Rattle.std.specs.Prelude.{ℕ, ◌+◌, ◌≤◌, ◌≡◌, Bool, true, false, ◌&&◌, not, List, [], ℤ, length, take, Option, None, Some}
-use Rattle.laws.specs.Choice.{when◌then◌else◌}
-use Rattle.settings.specs.Settings.{blank}
-use Rattle.settings.specs.declared.Settings.{Settings}
-use Rattle.refusal.specs.Table.{form_no}
+use Rattle.std.specs.Prelude.{ℕ, ◌+◌, ◌≤◌, ◌≡◌, Bool, true, false, List, [], ℤ, length, take, Option, None, Some}
+use Rattle.std.specs.Option.{is_some, is_none}
+use Rattle.event.specs.declared.Stored.{Stored}
 use Rattle.print.specs.Reply.{refused_text}
 use Rattle.calls.specs.Service.{Service}
 use Rattle.calls.specs.Kept.{noted}
-use Rattle.possible.specs.Answer.{most_samples}
+use Rattle.possible.specs.Answer.{most_samples, number_of}
+use Rattle.possible.specs.declared.Refusal.TheVariants.{Samples}
 use Rattle.marginlog.specs.Entry.{read_entry}
 use Rattle.marginlog.specs.Lines.{Prints}
 use Rattle.marginlog.specs.declared.entry.Entry.{Entry}
 use Rattle.marginlog.specs.declared.entry.Entry.TheVariants.{Begin, Store, Gross}
 use Rattle.margin.specs.declared.session.Call.{Call}
+use Rattle.margin.specs.declared.session.Session.{Session}
 
 -- samples that are too many are refused whatever follows: one over the most is kept
 abbrev pub places : ℕ
 places = most_samples + 1
 
--- the call that is being read, if one has begun, and whether it has its settings
-pub record State : Type 0 where
-  pub begun : Bool
-  pub settled : Bool
+-- the call that is being read, and its code and settings once they came
+pub record Reading : Type 0 where
   pub e : ℕ
-  pub code : ℕ
-  pub settings : Settings
+  pub stored : Option Stored
   pub samples : List ℤ
 
-abbrev pub none_begun : State
-none_begun = record { begun = false; settled = false; e = 0; code = 0; settings = blank; samples = [] }
+-- there is one once a call has begun
+abbrev pub State : Type 0
+State = Option Reading
 
 -- the settings have their place once, behind the line that begins a call, and the samples behind the settings
-abbrev pub has_place : Bool → Bool → Entry → Bool
-has_place begun settled (Begin e) = true
-has_place begun settled (Store code s) = begun && not settled
-has_place begun settled (Gross x) = settled
+abbrev pub has_place : State → Entry → Bool
+has_place None (Begin e) = true
+has_place None (Store t) = false
+has_place None (Gross x) = false
+has_place (Some c) (Begin e) = true
+has_place (Some c) (Store t) = is_none c.stored
+has_place (Some c) (Gross x) = is_some c.stored
 
-abbrev pub placed : Bool → Bool → Option Entry → Option Entry
-placed begun settled None = None
-placed begun settled (Some e) = when has_place begun settled e then Some e else None
+abbrev pub new_reading : ℕ → Reading
+new_reading e = record { e = e; stored = None; samples = [] }
 
--- the call behind a line; one of no such form or place leaves it
+-- the call behind a line
+abbrev pub told : Reading → Entry → Reading
+told c (Begin e) = new_reading e
+told c (Store t) = record { e = c.e; stored = Some t; samples = c.samples }
+told c (Gross x) = record { e = c.e; stored = c.stored; samples = noted places c.samples x }
+
 abbrev pub after : State → Entry → State
-after s (Begin e) = record { begun = true; settled = false; e = e; code = 0; settings = blank; samples = [] }
-after s (Store code t) = record { begun = s.begun; settled = true; e = s.e; code = code; settings = t; samples = s.samples }
-after s (Gross x) = record { begun = s.begun; settled = s.settled; e = s.e; code = s.code; settings = s.settings; samples = noted places s.samples x }
-
-abbrev pub after_line : State → Option Entry → State
-after_line s None = s
-after_line s (Some e) = after s e
+after None (Begin e) = Some (new_reading e)
+after None (Store t) = None
+after None (Gross x) = None
+after (Some c) e = Some (told c e)
 
 -- what is printed where a call ends: nothing if none has begun. A call without settings has no samples either, and is refused 15
-abbrev pub ClosesBy : Bool → State → List ℕ → Type 0
-ClosesBy false s text = text ≡ []
-ClosesBy true s text = Prints s.samples s.e s.code s.settings text
+abbrev pub ClosesBy : Option Stored → Reading → List ℕ → Type 0
+ClosesBy None c text = text ≡ refused_text (number_of Samples) 0
+ClosesBy (Some t) c text = Prints c.samples c.e t.code t.settings text
 
 abbrev pub Closes : State → List ℕ → Type 0
-Closes s text = ClosesBy s.begun s text
+Closes None text = text ≡ []
+Closes (Some c) text = ClosesBy c.stored c text
 
--- what a line prints: the one that begins a call ends the call before it; a line of no such form or place is refused 1
+-- what a line prints: the one that begins a call ends the call before it
 abbrev pub Says : State → Entry → List ℕ → Type 0
 Says s (Begin e) text = Closes s text
-Says s (Store code t) text = text ≡ []
+Says s (Store t) text = text ≡ []
 Says s (Gross x) text = text ≡ []
-
-abbrev pub SaysLine : State → Option Entry → List ℕ → Type 0
-SaysLine s None text = text ≡ refused_text form_no 0
-SaysLine s (Some e) text = Says s e text
 
 -- the program, for what it prints over a whole input
 abbrev pub margin_calls : Service
 margin_calls =
     record {
-      Entry = Option Entry;
+      Entry = Entry;
       State = State;
       reads = read_entry;
-      start = none_begun;
-      after = λ s e. after_line s (placed s.begun s.settled e);
-      Says = λ s e text. SaysLine s (placed s.begun s.settled e) text;
+      start = None;
+      has_place = has_place;
+      after = after;
+      Says = Says;
       Closes = Closes;
     }
 
 -- ---- the call in the program's memory
 
-abbrev pub no_call : Call
-no_call = record { begun = false; settled = false; e = 0; code = 0; settings = blank; count = 0 }
+abbrev pub reading_of : Call → List ℤ → Reading
+reading_of c xs = record { e = c.e; stored = c.stored; samples = take c.count xs }
 
-abbrev pub new_call : ℕ → Call
-new_call e = record { begun = true; settled = false; e = e; code = 0; settings = blank; count = 0 }
+abbrev pub reading_in : Option Call → List ℤ → State
+reading_in None xs = None
+reading_in (Some c) xs = Some (reading_of c xs)
 
-abbrev pub with_settings : Call → ℕ → Settings → Call
-with_settings c code s = record { begun = c.begun; settled = true; e = c.e; code = code; settings = s; count = c.count }
+abbrev pub state_of : Session → State
+state_of s = reading_in s.call s.samples
 
-abbrev pub with_count : Call → ℕ → Call
-with_count c n = record { begun = c.begun; settled = c.settled; e = c.e; code = c.code; settings = c.settings; count = n }
+-- the samples lie in the memory, which has its places
+abbrev pub Within : Option Call → Type 0
+Within None = Unit {0}
+Within (Some c) = c.count ≤ places
 
-abbrev pub state_of : Call → List ℤ → State
-state_of c xs = record { begun = c.begun; settled = c.settled; e = c.e; code = c.code; settings = c.settings; samples = take c.count xs }
-
--- the memory has its places, and the samples lie in it
-pub record Holds (c : Call) (xs : List ℤ) : Type 0 where
-  pub all-places : length xs ≡ places
-  pub within : c.count ≤ places
+pub record Holds (s : Session) : Type 0 where
+  pub all-places : length s.samples ≡ places
+  pub within : Within s.call

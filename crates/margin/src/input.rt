@@ -7,7 +7,8 @@ use crate::session::Session;
 use blocks::Ended;
 use std::io::{Read, Write};
 
-// Each line is served in its turn, and what it prints written; the end ends the last call.
+// Each line is served in its turn, and what it prints written; the end ends the last call. The program's promise stands on this
+// function of its own.
 pub(crate) fn serve_input<R: Read, W: Write>(reader: &mut R, writer: &mut W) -> Ended
     ensures { EndsSo margin_calls (streams (R.remaining reader.old) (W.contents writer.old)) (streams (R.remaining reader.new) (W.contents writer.new)) result }
 {

@@ -2,7 +2,8 @@
 use Rattle.std.specs.Prelude.{ℕ, ◌+◌, ◌≤◌, Bool, List, [], ◌++◌, eqb, length}
 use Rattle.laws.specs.Choice.{when◌then◌else◌}
 use Rattle.decimal.specs.Bytes.{bytes}
-use Rattle.print.specs.Steps.{Wrote}
+use Rattle.print.specs.declared.lines.Lines.{Lines}
+use Rattle.print.specs.Steps.{Writes}
 
 -- the length of `outcomes=`
 abbrev pub start : ℕ
@@ -13,5 +14,5 @@ abbrev pub next_name : ℕ → Bool → List ℕ → List ℕ
 next_name at possible name = when possible then (when eqb at start then name else (bytes "," ++ name)) else []
 
 -- it was written, where there was room for it
-abbrev pub NamePut : List ℕ → ℕ → Bool → List ℕ → List ℕ → ℕ → Type 0
-NamePut before at possible name after next = at + (1 + length name) ≤ length before → Wrote before at (next_name at possible name) (1 + length name) after next
+abbrev pub NamePut : Lines → Bool → List ℕ → Lines → Type 0
+NamePut before possible name after = before.at + (1 + length name) ≤ length before.out.now → Writes before (next_name before.at possible name) (1 + length name) after

@@ -1,13 +1,13 @@
 // What a line says.
-ghost use Rattle.std.specs.Prelude.{◌≡◌, [], ◌∷◌, ◌++◌, map};
-ghost use Rattle.text.specs.Form.{byte, number, line_values};
+ghost use Rattle.std.specs.Prelude.{◌≡◌};
+ghost use Rattle.text.specs.Form.{line_values};
 ghost use Rattle.text.specs.Read.{read_line};
-ghost use Rattle.marginlog.specs.Entry.{margin_form, value_in, store_in, store_or, margin_or, read_entry};
+ghost use Rattle.field.specs.Field.{sole_value};
+ghost use Rattle.marginlog.specs.Entry.{margin_form, gross_form, margin_entry, gross_entry, store_in, store_entry, read_entry};
 
-use event::Event;
-use field::read_field;
+use event::{Event, Stored};
+use field::sole_field;
 use numeral::unsigned_of;
-use settings::Settings;
 use text::{LONGEST_LINE, Read, read_line};
 
 // What a line says: `e=` begins a call with this margin, a store line gives a code and its settings, `gross=` a sample
@@ -15,19 +15,21 @@ use text::{LONGEST_LINE, Read, read_line};
 #[derive(Clone, Copy)]
 pub enum Entry {
     Begin(u64),
-    Store(u64, Settings),
+    Store(Stored),
     Gross(i64),
 }
 
-// The number of a line that is one field with this key.
-fn read_value(line: &[u8], key: &[u8]) -> Option<i64>
-    ensures { result ≡ value_in (line_values (map byte key.now ++ number ∷ []) line.now) }
+fn read_gross(line: &[u8]) -> Option<Entry>
+    ensures { result ≡ gross_entry (sole_value (line_values gross_form line.now)) }
 {
-    let found = read_field(line, 0, key)?;
-    if found.next < line.len() {
-        return None;
-    }
-    Some(found.value)
+    sole_field(line, b"gross=").map(Entry::Gross)
+}
+
+fn read_margin(line: &[u8]) -> Option<Entry>
+    ensures { result ≡ margin_entry (sole_value (line_values margin_form line.now)) }
+{
+    let e = sole_field(line, b"e=")?;
+    Some(Entry::Begin(unsigned_of(e)))
 }
 
 // A code's settings, if this is a store.
@@ -35,26 +37,17 @@ fn store_in(e: Event) -> Option<Entry>
     ensures { result ≡ store_in e }
 {
     match e {
-        Event::Store(code, s) => Some(Entry::Store(code, s)),
+        Event::Store(stored) => Some(Entry::Store(stored)),
         _ => None,
     }
 }
 
 fn read_store(line: &[u8]) -> Option<Entry>
-    ensures { result ≡ store_or (read_line line.now) }
+    ensures { result ≡ store_entry (read_line line.now) }
 {
     match read_line(line) {
         Some(Read::Event(e)) => store_in(e),
         _ => None,
-    }
-}
-
-fn read_margin(line: &[u8]) -> Option<Entry>
-    ensures { result ≡ margin_or (value_in (line_values margin_form line.now)) (store_or (read_line line.now)) }
-{
-    match read_value(line, b"e=") {
-        None => read_store(line),
-        Some(e) => Some(Entry::Begin(unsigned_of(e))),
     }
 }
 
@@ -65,8 +58,7 @@ pub fn read_entry(line: &[u8]) -> Option<Entry>
     if LONGEST_LINE < line.len() {
         return None;
     }
-    match read_value(line, b"gross=") {
-        None => read_margin(line),
-        Some(x) => Some(Entry::Gross(x)),
-    }
+    read_gross(line)
+        .or_else(|| read_margin(line))
+        .or_else(|| read_store(line))
 }

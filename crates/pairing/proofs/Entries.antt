@@ -1,6 +1,6 @@
 -- The entries of a list: what holds of each, strictly rising lists as loops test them, and what is left over. Assumes nothing.
 use mathlib.Core.Path.{◌≡◌, refl, sym, ap, subst, ◌∙◌}
-use mathlib.Core.Bool.{Bool, true, false, ◌&&◌}
+use mathlib.Core.Bool.{Bool, true, false, ◌&&◌, and-false}
 use Rattle.std.specs.List.{AllAdjacentBelow, IsAllAdjacentAnswer}
 use mathlib.Core.List.{List, [], ◌∷◌, map}
 use mathlib.Core.Logic.{◌≢◌}
@@ -9,9 +9,10 @@ use native.Mathlib.Omega.{arith}
 use lib.Dec.{eqb, ltb, leb}
 use lib.ListN.{length, get_or}
 use borrow.Author.Tests.{ltb-true, leb-true, eqb-true, eq-eqb, ne_eqb}
+use Rattle.std.proofs.lemmas.List.Recursion.{and_at}
 use Rattle.laws.proofs.Tests.{both, by_cases, never}
 use Rattle.lists.specs.Each.{any_of, all_of, counted}
-use Rattle.pairing.specs.Pairing.{stands_in, Every, none, more, left_over}
+use Rattle.pairing.specs.Pairing.{Pair, stands_in, Every, none, more, Fits, left_over}
 use Rattle.pairing.specs.Answer.{rises, ticks_fit, last_tick}
 
 -- ---- what holds of each entry
@@ -34,6 +35,10 @@ every-both (more p e) f = more (p, first f) (every-both e (rest f))
 pub every_of : {A : Type 0} {P : ℕ → Type 0} (f : A → ℕ) {l : List A} → Every (λ x. P (f x)) l → Every P (map f l)
 every_of f none = none
 every_of f (more p e) = more p (every_of f e)
+
+-- a pair that fits two lists fits others that its ticks stand in
+pub fits_in : {vs ts us ss : List ℕ} {a b : ℕ} (q : Pair) → Fits vs ts a b q → stands_in us q.verdict ≡ true → stands_in ss q.signal ≡ true → Fits us ss a b q
+fits_in q f v s = record { verdict_in = v; signal_in = s; from = f.from; upto = f.upto }
 
 -- ---- an entry that stands in a list
 
@@ -62,10 +67,6 @@ every_in {P} x (more {x = y} {l = l} p e) h =
 
 -- ---- strictly rising lists
 
-and_false : (b : Bool) → b && false ≡ false
-and_false true = refl
-and_false false = refl
-
 -- each entry is before every later one
 abbrev pub Sorted : List ℕ → Type 0
 Sorted [] = Unit
@@ -85,8 +86,8 @@ all-rise : (l : List ℕ) → AllAdjacentBelow (λ x y. true ≡ ltb x y) l (len
 all-rise [] h = refl
 all-rise (x ∷ []) h = refl
 all-rise (x ∷ y ∷ l) h =
-    let rest = all-rise (y ∷ l) (λ k d g. let on : suc k + 1 ≡ suc (k + 1) = omega arith in subst (λ (m : ℕ). true ≡ ltb (get_or (y ∷ l) k d) (get_or (x ∷ y ∷ l) m d)) on (h (suc k) d (omega (arith, g)))) in
-    rw (sym (h 0 0 (omega arith)), rest) refl
+    let on : (k : ℕ) → suc k + 1 ≡ suc (k + 1) = λ k. omega arith in
+    rw (sym (h 0 0 (omega arith)), all-rise (y ∷ l) (λ k d g. rw (on k) at (h (suc k) d (omega (arith, g))))) refl
 
 one-falls : (l : List ℕ) (k : ℕ) → k + 1 < length l → ((d : ℕ) → false ≡ ltb (get_or l k d) (get_or l (k + 1) d)) → rises l ≡ false
 one-falls [] k g h = absurd (omega (arith, g))
@@ -94,7 +95,7 @@ one-falls (x ∷ []) k g h = absurd (omega (arith, g))
 one-falls (x ∷ y ∷ l) zero g h = rw (sym (h 0))
 one-falls (x ∷ y ∷ l) (suc k) g h =
     let on : suc k + 1 ≡ suc (k + 1) = omega arith in
-    ap (λ (r : Bool). ltb x y && r) (one-falls (y ∷ l) k (omega (arith, g)) (λ d. rw on at h d)) ∙ and_false (ltb x y)
+    ap (λ (r : Bool). ltb x y && r) (one-falls (y ∷ l) k (omega (arith, g)) (λ d. rw on at h d)) ∙ and-false (ltb x y)
 
 pub rises_by : (l : List ℕ) (r : Bool) → IsAllAdjacentAnswer (λ x y b. b ≡ ltb x y) l r → r ≡ rises l
 rises_by l true h = sym (all-rise l h)
@@ -102,11 +103,9 @@ rises_by l false h = sym (one-falls l h.0 h.1 h.2)
 
 -- ---- ticks
 
-pub tick-fits : (l : List ℕ) (i : ℕ) → ticks_fit l ≡ true → get_or l i 0 ≤ last_tick
+pub tick_fits : (l : List ℕ) (i : ℕ) → ticks_fit l ≡ true → i < length l → get_or l i 0 ≤ last_tick
 unfolding all_of
-tick-fits [] i h = omega arith
-tick-fits (x ∷ l) zero h = leb-true x last_tick (both (leb x last_tick) (ticks_fit l) h).0
-tick-fits (x ∷ l) (suc i) h = tick-fits l i (both (leb x last_tick) (ticks_fit l) h).1
+tick_fits l i h k = leb-true _ _ (and_at ticks_fit (λ t. leb t last_tick) refl (λ _ _. refl) l i 0 k h)
 
 -- ---- what is left over
 

@@ -6,7 +6,7 @@
 
 ghost use Rattle.std.specs.Prelude.{◌≡◌, true, ◌*◌, ◌≤◌, length, None, Some, MatchResult};
 ghost use Rattle.time.specs.Time.{longest};
-ghost use Rattle.pairing.specs.Answer.{rises, in_order, ticks_fit, number_of, refusal_of, Answered};
+ghost use Rattle.pairing.specs.Answer.{in_order, ticks_fit, number_of, refusal_of, Answered};
 ghost use Rattle.pairing.specs.Sweep.{Filled};
 
 // A list has at most so many ticks.
@@ -50,6 +50,7 @@ pub struct Counts {
 // Verdict v and signal t are paired only if v + a <= t <= v + b. The pairs go to the front of the buffer, verdict tick then
 // signal tick, in rising order of verdict tick; what stands behind them stays. Which largest pairing it is is free. A refused
 // call writes nothing.
+#[tactic(auto, using(crate::proofs::Accepted::accepted))]
 pub fn pair_exits(
     verdicts: &[u64],
     signals: &[u64],
@@ -69,6 +70,7 @@ pub fn pair_exits(
 }
 
 // The first condition that holds refuses.
+#[tactic(auto, unfolding(crate::specs::Answer::refusal_of))]
 fn accept(verdicts: &[u64], signals: &[u64], a: u64, b: u64, room: usize) -> Result<(), Refusal>
     ensures { MatchResult result (λ _. refusal_of verdicts.now signals.now a b room ≡ None) (λ r. refusal_of verdicts.now signals.now a b room ≡ Some r) }
 {
@@ -102,6 +104,8 @@ fn ticks_fit(l: &[u64]) -> bool
 
 // Of the earliest verdict left and the earliest signal left one has no partner, or they are a pair. Each pass goes past one of
 // them or both, so that the time is linear in the two lists. Two places go on by turns, which no iterator says more plainly.
+// A pair is two numbers of the buffer, since document 02 counts the buffer in numbers.
+#[tactic(auto, using(crate::proofs::Filling::filling))]
 fn fill(verdicts: &[u64], signals: &[u64], a: u64, b: u64, pairs: &mut [u64]) -> usize
     requires { (ticks_fit verdicts.now ≡ true) × (a ≤ b) × (b ≤ longest) × (2 * length verdicts.now ≤ length pairs.old) }
     ensures { Filled verdicts.now signals.now a b pairs.old pairs.new result }

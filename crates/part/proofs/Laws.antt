@@ -12,25 +12,25 @@ use Rattle.laws.proofs.Tests.{both, and_intro, if_ind, by_cases}
 use Rattle.lists.specs.Counts.{add_up}
 use Rattle.lists.proofs.Counts.{one_of_sum, sum-one_more}
 use Rattle.weight.specs.Weight.{is_weight}
-use Rattle.tally.specs.Tally.{tally_fit, is_grade, takes, counted_with, weighed_with, added}
+use Rattle.verdict.specs.Verdict.{is_grade}
+use Rattle.tally.specs.Tally.{tally_fit, takes, weighed_with, added}
 use Rattle.tally.proofs.Facts.{fit_tells, takes_tells}
 use Rattle.tally.proofs.Added.{added-fit}
 use Rattle.part.specs.Class.{class_of}
-use Rattle.part.specs.Classes.{packed, counts_of}
-use Rattle.part.specs.Part.{Part, empty_part, part_fit, added_part, takes_in}
+use Rattle.part.specs.Part.{empty_part, part_fit, added_part, takes_in}
+use Rattle.part.specs.declared.part.Part.{Part}
 use Rattle.part.proofs.Held.{class-known}
-use Rattle.part.proofs.Digits.{packed-counts}
 
 pub record FitPart (p : Part) : Type 0 where
   pub tally : tally_fit p.tally ≡ true
-  pub count : length p.counts ≡ 21
-  pub sum : add_up p.counts ≡ p.tally.n
+  pub count : length p.classes ≡ 21
+  pub sum : add_up p.classes ≡ p.tally.n
 
 pub fit-part : (p : Part) → part_fit p ≡ true → FitPart p
 unfolding part_fit
 fit-part p f =
-    let a = both (tally_fit p.tally && eqb (length p.counts) 21) (eqb (add_up p.counts) p.tally.n) f in
-    let b = both (tally_fit p.tally) (eqb (length p.counts) 21) a.0 in
+    let a = both (tally_fit p.tally && eqb (length p.classes) 21) (eqb (add_up p.classes) p.tally.n) f in
+    let b = both (tally_fit p.tally) (eqb (length p.classes) 21) a.0 in
     record { tally = b.0; count = eqb-true _ _ b.1; sum = eqb-true _ _ a.1 }
 
 -- and back
@@ -39,12 +39,8 @@ unfolding part_fit
 part_fit_lem p f = and_intro (and_intro f.tally (eq-eqb _ _ f.count)) (eq-eqb _ _ f.sum)
 
 -- each count is at most 999,999
-pub count_small : (p : Part) → FitPart p → (k : ℕ) → get_or p.counts k 0 ≤ 999999
-count_small p f k = omega (arith, one_of_sum p.counts k, f.sum, (fit_tells p.tally f.tally).bounds.n)
-
--- the counts of a fit part, kept, are read back
-pub kept-counts : (p : Part) → FitPart p → counts_of (packed p.counts) ≡ p.counts
-kept-counts p f = packed-counts p.counts f.count (λ k. omega (arith, count_small p f k))
+pub count_small : (p : Part) (k : ℕ) → part_fit p ≡ true → get_or p.classes k 0 ≤ 999999
+count_small p k h = let f = fit-part p h in omega (arith, one_of_sum p.classes k, f.sum, (fit_tells p.tally f.tally).bounds.n)
 
 pub empty-fit : part_fit empty_part ≡ true
 unfolding part_fit tally_fit add_up
@@ -62,17 +58,17 @@ module _ (p : Part) (v : ℕ) (net target : ℤ) (t : takes_in p v net target �
   was = fit-part p tests.0
 
   -- "The 21 counts add to n": one more of both, or of neither
-  sums_agree : add_up (added_part p v net target).counts ≡ (added p.tally v net).n
-  unfolding added_part added weighed_with counted_with
+  sums_agree : add_up (added_part p v net target).classes ≡ (added p.tally v net).n
+  unfolding added_part added weighed_with
   sums_agree =
       by_cases (is_grade v)
-      (λ y. rw y (sum-one_more p.counts (class_of net target) (omega (arith, class-known net target, was.count)) ∙ rw was.sum refl))
+      (λ y. rw y (sum-one_more p.classes (class_of net target) (omega (arith, class-known net target, was.count)) ∙ rw was.sum refl))
       (λ n. rw n was.sum)
 
-  count-stays : length (added_part p v net target).counts ≡ 21
+  count-stays : length (added_part p v net target).classes ≡ 21
   unfolding added_part
   count-stays =
-      if_ind (λ (l : List ℕ). length l ≡ 21) (is_grade v) _ _ (λ _. length-set p.counts (class_of net target) _ ∙ was.count) (λ _. was.count)
+      if_ind (λ (l : List ℕ). length l ≡ 21) (is_grade v) _ _ (λ _. length-set p.classes (class_of net target) _ ∙ was.count) (λ _. was.count)
 
   tally-stays : tally_fit (added_part p v net target).tally ≡ true
   unfolding added_part

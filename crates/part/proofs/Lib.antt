@@ -1,3 +1,4 @@
 pub mod Held
-pub mod Digits
 pub mod Laws
+pub mod Chosen
+pub mod Noted

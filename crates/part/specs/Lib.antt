@@ -1,4 +1,4 @@
 pub mod Class
 pub mod Law
-pub mod Classes
 pub mod Part
+pub mod Steps

@@ -13,7 +13,7 @@ const WIDTH: u64 = 11;
 
 // The class that holds a net, which is in divisions like the target. Whole widths are counted from 115 below the target, where
 // class 0 would begin if it were as wide as the others: so no quotient is of a negative number.
-pub(crate) fn class_of(net: i64, target: i64) -> u64
+pub(crate) fn class_of(net: i64, target: i64) -> usize
     requires { (nat_abs net ≤ largest_weight) × (nat_abs target ≤ largest_weight) }
     ensures { (result ≡ class_of net target) × (result ≤ last_class) }
 {
@@ -21,5 +21,5 @@ pub(crate) fn class_of(net: i64, target: i64) -> u64
     if above < 0 {
         return 0;
     }
-    (size(above) / WIDTH).min(20)
+    (size(above) / WIDTH).min(20) as usize
 }

@@ -1,13 +1,13 @@
-// Beside a code's tally, its 21 class counts: the class of a net, and the counts as the line keeps them.
+// What stands under a code: its tally, and beside it 21 class counts.
 #![tactic(auto)]
 
 ghost use Rattle.part.specs.Law.{ClassLaw};
 
 mod class;
-mod classes;
+mod part;
 
 pub use class::CLASSES;
-pub use classes::{Classes, first, second, third, three};
+pub use part::Part;
 
 // Each net is in one class, the one that `class_of` gives. It says nothing of the code: it is a theorem on the definitions.
 #[tactic(auto, using(crate::proofs::Held::class_law))]

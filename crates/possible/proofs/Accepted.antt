@@ -1,29 +1,30 @@
 -- What an accepted call knows; and that the mask of the least and the largest mean has exactly the outcomes that can be. Assumes nothing.
-use mathlib.Core.Path.{◌≡◌, refl, sym, ap, ap₂, subst, ◌∙◌}
-use mathlib.Core.Bool.{Bool, true, false, ◌&&◌, not}
+use mathlib.Core.Path.{◌≡◌, sym, ap, ap₂, ◌∙◌}
+use mathlib.Core.Bool.{true}
 use mathlib.Core.List.{List}
 use Prim.Native.Nat.{ℕ, ◌≤◌, ◌<◌}
-use lib.Dec.{leb}
-use lib.IntN.{ℤ, pos, neg_ℤ, ◌+ℤ◌, +ℤ_idr}
+use native.Mathlib.Omega.{arith}
+use lib.IntN.{ℤ}
 use lib.ListN.{length}
-use borrow.Author.Tests.{le-leb, leb-true, not-false}
-use Rattle.laws.specs.Choice.{when◌then◌else◌}
+use mir.Syntax.{w64}
+use mir.Val.{SFits, to_z, of_z}
+use mir.Facts.{to_z-of_z}
+use borrow.Author.Tests.{le-leb, leb-true}
 use Rattle.weight.specs.Weight.{largest_weight, is_weight}
 use Rattle.weight.specs.Mean.{rounded}
 use Rattle.weight.proofs.Nearest.{rounded-within}
-use Rattle.laws.proofs.Tests.{both, and_intro}
 use Rattle.mask.specs.Bits.{bit_set}
-use Rattle.std.specs.Prelude.{Option, None, Some}
-use Rattle.possible.specs.declared.Refusal.TheVariants.{Samples, Value, Contradiction}
-use Rattle.settings.specs.Settings.{record_fit, record_ranged, limits_ordered}
+use Rattle.std.specs.Prelude.{None}
+use Rattle.settings.specs.Settings.{record_fit}
 use Rattle.settings.specs.declared.Settings.{Settings}
 use Rattle.lists.specs.Sums.{sum_of}
 use Rattle.possible.specs.Outcome.{outcome_at}
-use Rattle.possible.specs.Answer.{most_samples, widest, count_fits, all_weights, refusal_of, Near, CanBe, IsSet}
+use Rattle.possible.specs.Answer.{most_samples, widest, all_weights, refusal_of, CanBe, IsSet}
 use Rattle.possible.specs.Bounds.{sum_at, outcomes_between}
-use Rattle.possible.proofs.Sums.{near_length, low_sum, high_sum, Spread, spread, sum-size}
-use Rattle.possible.proofs.Means.{Climb, means}
-use Rattle.possible.proofs.Reach.{bit-reached, reached-bit}
+use Rattle.possible.proofs.Sums.{near_length, low_sum, high_sum, sums_rise, sum_in, is_sum, sum-size}
+use Rattle.possible.proofs.Means.{rounded_rises, is_mean}
+use Rattle.possible.proofs.Grades.{ordered, of_bit, to_bit}
+use lib.Signed.{◌≤ℤ◌}
 
 -- what an accepted call knows
 pub record Accepted (xs : List ℤ) (e : ℕ) (s : Settings) : Type 0 where
@@ -33,25 +34,15 @@ pub record Accepted (xs : List ℤ) (e : ℕ) (s : Settings) : Type 0 where
   pub few : e ≤ widest
   pub fit : record_fit s ≡ true
 
-passed : {A : Type 0} (h : Bool) (r : A) (rest : Option A) → (when h then Some r else rest) ≡ None → (h ≡ false) × (rest ≡ None)
-passed true r rest e = cc
-passed false r rest e = (refl, e)
-
 pub accepted : (xs : List ℤ) (e : ℕ) (s : Settings) → refusal_of xs e s ≡ None → Accepted xs e s
 unfolding refusal_of
 accepted xs e s h =
-    let p = passed (not (count_fits (length xs))) Samples _ h in
-    let q = passed (not (all_weights xs && leb e widest && record_ranged s)) Value _ p.1 in
-    let r = passed (not (limits_ordered s)) Contradiction None q.1 in
-    let l = both (leb 1 (length xs)) (leb (length xs) most_samples) (not-false _ p.0) in
-    let t = both (all_weights xs && leb e widest) (record_ranged s) (not-false _ q.0) in
-    let u = both (all_weights xs) (leb e widest) t.0 in
     record {
-      some = leb-true 1 (length xs) l.0;
-      many = leb-true (length xs) most_samples l.1;
-      weights = u.0;
-      few = leb-true e widest u.1;
-      fit = and_intro t.1 (not-false _ r.0);
+      some = grind (arith, leb-true);
+      many = grind (arith, leb-true);
+      weights = grind arith;
+      few = grind (arith, leb-true);
+      fit = grind arith;
     }
 
 module _ (xs : List ℤ) (e : ℕ) (s : Settings) (a : Accepted xs e s) where
@@ -68,50 +59,30 @@ module _ (xs : List ℤ) (e : ℕ) (s : Settings) (a : Accepted xs e s) where
   abbrev pub mask : ℕ
   mask = outcomes_between s low high
 
-  mean-weight : (d : ℤ) → is_weight (rounded (sum_at d xs) n) ≡ true
+  pub mean-weight : (d : ℤ) → is_weight (rounded (sum_at d xs) n) ≡ true
   mean-weight d = le-leb _ _ (rounded-within (sum_at d xs) n largest_weight a.some (sum-size d xs))
 
-  pub low-weight : is_weight low ≡ true
-  low-weight = mean-weight (neg_ℤ (pos e))
+  -- the code's mean of the samples moved by d
+  pub mean_is : (d sum mean : ℤ) → SFits w64 sum → SFits w64 mean → sum ≡ sum_at d xs → mean ≡ rounded (to_z w64 (of_z w64 sum)) n → to_z w64 (of_z w64 mean) ≡ rounded (sum_at d xs) n
+  mean_is d sum mean f g p q = to_z-of_z g ∙ q ∙ rw (to_z-of_z f, p)
 
-  pub high-weight : is_weight high ≡ true
-  high-weight = mean-weight (pos e)
-
-  sums : Spread e a.few xs
-  sums = spread e a.few xs a.weights
-
-  means_of : Climb (λ d. rounded (low_sum e xs +ℤ pos d) n) sums.apart
-  means_of = means (low_sum e xs) n a.some sums.apart
-
-  -- the climb begins at the least mean
-  from_start : (h : ℕ) → rounded (low_sum e xs +ℤ pos 0) n +ℤ pos h ≡ low +ℤ pos h
-  from_start h = ap (λ (z : ℤ). rounded z n +ℤ pos h) (+ℤ_idr (low_sum e xs))
-
-  high_is : high ≡ low +ℤ pos means_of.height
-  high_is = ap (λ (z : ℤ). rounded z n) sums.high_is ∙ means_of.at_top ∙ from_start means_of.height
-
-  -- the mean of samples whose sum is known
-  mean_of_lem : (ys : List ℤ) (d : ℕ) → Near e xs ys → sum_of ys ≡ low_sum e xs +ℤ pos d → rounded (sum_of ys) (length ys) ≡ rounded (low_sum e xs +ℤ pos d) n
-  mean_of_lem ys d near q = ap₂ rounded q (near_length near)
+  rise : low ≤ℤ high
+  rise = rounded_rises _ _ n a.some (sums_rise e xs a.weights)
 
   pub is_set : IsSet s e xs mask
   is_set k = (there, back)
     where
       there : bit_set mask k ≡ true → CanBe s e xs k
-      there g =
-          let r = bit-reached s a.fit low high low-weight high-weight means_of.height high_is k g in
-          let c = means_of.onto r.0 r.1 in
-          let y = sums.is_sum c.0 c.1 in
-          record {
-            samples = y.0;
-            near = y.1;
-            gives = ap (outcome_at s) (mean_of_lem y.0 c.0 y.1 y.2 ∙ c.2 ∙ from_start r.0) ∙ r.2;
-          }
+      there h =
+          let f = of_bit s low high (ordered s a.fit) rise k h in
+          let z = is_mean (low_sum e xs) (high_sum e xs) f.0 n a.some (sums_rise e xs a.weights) f.1 f.2 in
+          let y = is_sum e xs a.weights z.0 z.1 z.2 in
+          record { samples = y.0; near = y.1; gives = ap (outcome_at s) (ap₂ rounded y.2 (near_length y.1) ∙ z.3) ∙ f.3 }
 
       back : CanBe s e xs k → bit_set mask k ≡ true
       back c =
-          let y = sums.sum_is c.samples c.near in
-          let b = means_of.below y.0 y.1 in
-          let g = reached-bit s a.fit low high low-weight high-weight means_of.height high_is b.0 b.1 in
-          let m = mean_of_lem c.samples y.0 c.near y.2 ∙ b.2 ∙ from_start b.0 in
-          subst (λ (o : ℕ). bit_set mask o ≡ true) (sym (ap (outcome_at s) m) ∙ c.gives) g
+          let b = sum_in e c.near in
+          let m = rounded (sum_of c.samples) n in
+          let g = to_bit s low high (ordered s a.fit) rise m (rounded_rises _ _ n a.some b.0) (rounded_rises _ _ n a.some b.1) in
+          let e : outcome_at s m ≡ k = ap (λ (l : ℕ). outcome_at s (rounded (sum_of c.samples) l)) (sym (near_length c.near)) ∙ c.gives in
+          rw e at g

@@ -1,10 +1,9 @@
-pub mod Shift
+pub mod Signed
 pub mod Samples
 pub mod Sums
 pub mod Means
 pub mod Bits
-pub mod Between
-pub mod Reach
+pub mod Grades
 pub mod Accepted
-pub mod Machine
+pub mod Adding
 pub mod Exactly

@@ -4,11 +4,12 @@
 // whose samples are these within e. It reads one list and a settings record; no line, memory or sheet is in its reach.
 #![tactic(auto)]
 
-ghost use Rattle.std.specs.Prelude.{◌≡◌, true, ◌≤◌, ◌<◌, nat_abs, length, None, Some, MatchResult};
+ghost use Rattle.std.specs.Prelude.{◌≡◌, true, ◌*◌, ◌^◌, ◌≤◌, ◌<◌, nat_abs, length, None, Some, MatchResult};
 ghost use Rattle.laws.specs.Choice.{bit};
 ghost use Rattle.weight.specs.Weight.{largest_weight, is_weight};
 ghost use Rattle.weight.specs.Mean.{rounded};
 ghost use Rattle.settings.specs.Settings.{record_fit};
+ghost use Rattle.verdict.specs.Verdict.{dismissed};
 ghost use Rattle.possible.specs.Answer.{most_samples, widest, count_fits, all_weights, number_of, refusal_of, Answered};
 ghost use Rattle.possible.specs.Bounds.{clipped, sum_at, undismissed, grades_between, outcomes_between};
 ghost use Rattle.possible.specs.Exact.{Exact};
@@ -43,10 +44,11 @@ impl Refusal {
     }
 }
 
-// The mask with bit k for each possible outcome k, 1 to 5 (the grades) and 9 (dismissed).
+// The mask with bit k for each possible outcome k, a grade or dismissed.
 //
 // Each sum between the least and the largest is one of samples within e, and so is each mean between their means: the
 // possible outcomes are those of the means between. One pass over the samples for each end, and no memory.
+#[tactic(auto, using(crate::proofs::Signed::signed, crate::proofs::Accepted::accepted))]
 pub fn possible_outcomes(samples: &[i64], e: u64, s: Settings) -> Result<u64, Refusal>
     ensures { Answered samples.now e s result }
 {
@@ -71,6 +73,7 @@ pub fn count_fits(count: usize) -> bool
 }
 
 // The first condition that holds refuses.
+#[tactic(auto, unfolding(crate::specs::Answer::refusal_of))]
 fn accept(samples: &[i64], e: u64, s: Settings) -> Result<(), Refusal>
     ensures { MatchResult result (λ _. refusal_of samples.now e s ≡ None) (λ r. refusal_of samples.now e s ≡ Some r) }
 {
@@ -100,6 +103,7 @@ fn mean(sum: i64, n: u64) -> i64
 }
 
 // The sum of the samples, each moved by d and held within the weights.
+#[tactic(auto, using(crate::proofs::Adding::adding))]
 fn sum_at(samples: &[i64], d: i64) -> i64
     requires { (all_weights samples.now ≡ true) × (nat_abs d ≤ widest) × (length samples.now ≤ most_samples) }
     ensures { result ≡ sum_at d samples.now }
@@ -112,6 +116,7 @@ fn sum_at(samples: &[i64], d: i64) -> i64
 }
 
 // x moved by d, held within the weights.
+#[tactic(auto, unfolding(crate::specs::Bounds::clipped), using(crate::proofs::Signed::signed))]
 fn clipped(x: i64, d: i64) -> i64
     requires { (is_weight x ≡ true) × (nat_abs d ≤ widest) }
     ensures { result ≡ clipped d x }
@@ -128,12 +133,12 @@ fn outcomes_between(s: Settings, low: i64, high: i64) -> u64
     let first = undismissed(low, s.nearzero);
     let l = first - s.tare;
     let h = high - s.tare;
-    let dismissed = bit(low <= s.nearzero);
-    let grades = grades_between(s, l, h);
-    512 * dismissed + grades
+    let dismissed = outcome_if(verdict::DISMISSED, low <= s.nearzero);
+    dismissed + grades_between(s, l, h)
 }
 
 // The least mean from low on that is not dismissed: an `if`, as the rule is said, and no `max` of low and nearzero + 1.
+#[tactic(auto, unfolding(crate::specs::Bounds::undismissed), using(crate::proofs::Signed::signed))]
 fn undismissed(low: i64, nearzero: i64) -> i64
     requires { nat_abs nearzero ≤ largest_weight }
     ensures { result ≡ undismissed low nearzero }
@@ -146,20 +151,27 @@ fn undismissed(low: i64, nearzero: i64) -> i64
 
 // The grades of the nets from l to h, if there are any; where two limits are equal no net lies between them.
 fn grades_between(s: Settings, l: i64, h: i64) -> u64
-    ensures { (result ≡ grades_between s l h) × (result ≤ 62) }
+    ensures { (result ≡ grades_between s l h) × (result < 2 ^ dismissed) }
 {
     let some = l <= h;
-    let lolo = bit(some & (l < s.lolo));
-    let lo = bit(some & (l < s.lo) & (s.lolo <= h) & (s.lolo < s.lo));
-    let ok = bit(some & (l <= s.hi) & (s.lo <= h));
-    let hi = bit(some & (l <= s.hihi) & (s.hi < h) & (s.hi < s.hihi));
-    let hihi = bit(some & (s.hihi < h));
-    2 * lolo + 4 * lo + 8 * ok + 16 * hi + 32 * hihi
+    let lolo = outcome_if(verdict::LOLO, some & (l < s.lolo));
+    let lo = outcome_if(
+        verdict::LO,
+        some & (l < s.lo) & (s.lolo <= h) & (s.lolo < s.lo),
+    );
+    let ok = outcome_if(verdict::OK, some & (l <= s.hi) & (s.lo <= h));
+    let hi = outcome_if(
+        verdict::HI,
+        some & (l <= s.hihi) & (s.hi < h) & (s.hi < s.hihi),
+    );
+    let hihi = outcome_if(verdict::HIHI, some & (s.hihi < h));
+    lolo + lo + ok + hi + hihi
 }
 
-// The number of a bit: at most 1, which the sums of the bits need.
-fn bit(b: bool) -> u64
-    ensures { (result ≡ bit b) × (result ≤ 1) }
+// The mask of one outcome, if it is possible; at most its bit, which the sums of the masks need.
+fn outcome_if(outcome: u64, possible: bool) -> u64
+    requires { outcome ≤ dismissed }
+    ensures { (result ≡ 2 ^ outcome * bit possible) × (result ≤ 2 ^ outcome) }
 {
-    u64::from(b)
+    u64::from(possible) << outcome
 }

@@ -9,7 +9,7 @@ use lib.Seq.{length-take-le, take_at, drop_at, drop-drop, set_split, take-set-le
 use borrow.Author.Tests.{le-leb, lt-leb}
 use borrow.Rule.Slice.PartMut.{put_mid}
 use Rattle.print.specs.Written.{buffer_after, length_written}
-use Rattle.print.specs.Steps.{with_text_at, Wrote, WroteIfRoom}
+use Rattle.print.specs.Steps.{with_text_at, Wrote}
 
 module _ (b : List ℕ) (at : ℕ) (s : List ℕ) (h : at + length s ≤ length b) where
   head_length : length (take at b ++ s) ≡ at + length s
@@ -61,9 +61,6 @@ pub put_front : (b s : List ℕ) → with_text_at b 0 s ≡ s ++ drop (length s)
 unfolding with_text_at
 put_front b s = let e : 0 + length s ≡ length s = omega arith in rw e
 
-pub wrote-byte : (b : List ℕ) (at x : ℕ) → at < length b → Wrote b at (x ∷ []) 1 (set b at x) (at + 1)
-wrote-byte b at x h = record { bytes = put_one b at x h; place = refl; fits = omega arith; short = omega arith }
-
 -- nothing yet
 pub wrote_none : (b : List ℕ) (at : ℕ) → at ≤ length b → Wrote b at [] 0 b at
 unfolding with_text_at
@@ -107,10 +104,3 @@ wrote-front {b} {b'} {r} {m} {s} room h w = simp (le-leb room (length b) h) (ome
 
 pub kept-front : (room : ℕ) (s b : List ℕ) → length b < room → (0 ≡ length_written room s b) × (b ≡ buffer_after room s b)
 kept-front room s b h = simp (lt-leb room (length b) h) (refl, refl)
-
--- where there is room, and where there may be too little
-pub wrote_if : {b b' : List ℕ} {at r m : ℕ} {s : List ℕ} → at + m ≤ length b → Wrote b at s m b' r → WroteIfRoom b at s m b' r
-wrote_if h w = record { wrote = λ _. w; full = λ g. absurd (omega (arith, h, g)) }
-
-pub kept_full : (b : List ℕ) (at : ℕ) (s : List ℕ) (room : ℕ) → length b < at + room → WroteIfRoom b at s room b at
-kept_full b at s room h = record { wrote = λ g. absurd (omega (arith, h, g)); full = λ _. (refl, refl) }

@@ -22,15 +22,15 @@ totals code s = field "code" (decimal code) ∷ field "total" (decimal s.total) 
 
 abbrev pub grades : Sheet → List (List ℕ)
 grades s =
-    field "lolo" (decimal s.lolo)
-    ∷ field "lo" (decimal s.lo)
-    ∷ field "ok" (decimal s.ok)
-    ∷ field "hi" (decimal s.hi)
-    ∷ field "hihi" (decimal s.hihi)
+    field "lolo" (decimal s.counts.lolo)
+    ∷ field "lo" (decimal s.counts.lo)
+    ∷ field "ok" (decimal s.counts.ok)
+    ∷ field "hi" (decimal s.counts.hi)
+    ∷ field "hihi" (decimal s.counts.hihi)
     ∷ []
 
 abbrev pub faults : Sheet → List (List ℕ)
-faults s = field "foreign" (decimal s.foreign) ∷ field "double" (decimal s.double) ∷ field "crash" (decimal s.crash) ∷ []
+faults s = field "foreign" (decimal s.counts.foreign) ∷ field "double" (decimal s.counts.double) ∷ field "crash" (decimal s.counts.crash) ∷ []
 
 abbrev pub weight_figures : Sheet → List (List ℕ)
 weight_figures s =

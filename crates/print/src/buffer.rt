@@ -15,6 +15,7 @@ pub(crate) fn put(out: &mut [u8], at: usize, text: &[u8]) -> usize
 
 // n in decimal: how many digits there are is found first, so that each is stored at its place, the last one first.
 // The loop goes by the digits, from the last one on, and ends where m has one: no iterator says that more plainly.
+#[tactic(auto, using(decimal::proofs::Digits::length_digit, decimal::proofs::Digits::length_more))]
 pub(crate) fn put_decimal(out: &mut [u8], at: usize, n: u64) -> usize
     requires { at + length (decimal n) ≤ length out.old }
     ensures { Wrote out.old at (decimal n) (length (decimal n)) out.new result }
@@ -32,6 +33,7 @@ pub(crate) fn put_decimal(out: &mut [u8], at: usize, n: u64) -> usize
 }
 
 // How many digits n has. Most have one, which is one test here: by `ilog10` a reply took a third more instructions.
+#[tactic(auto, using(decimal::proofs::Digits::length_digit, decimal::proofs::Digits::length_more, decimal::proofs::Digits::at_most_20))]
 fn width(n: u64) -> usize
     ensures { result ≡ length (decimal n) }
 {

@@ -3,11 +3,10 @@
 
 mod buffer;
 mod lines;
-mod place;
 mod reply;
 mod report;
 
-pub use place::{count_at, text_at};
+pub use lines::Lines;
 pub use reply::reply_line;
 pub use report::sheet_lines;
 

@@ -1,21 +1,57 @@
 // Lines that are written to a lent buffer, one text behind the other. A field is its key, given with what separates it from
 // the field before and with its `=`, and its value.
-ghost use Rattle.std.specs.Prelude.{◌++◌, ◌+◌, ◌≤◌, length};
+ghost use Rattle.std.specs.Prelude.{◌≡◌, ◌++◌, ◌+◌, ◌≤◌, leb, length};
 ghost use Rattle.decimal.specs.Number.{decimal, number_text};
 ghost use Rattle.print.specs.Text.{line_end, none};
 ghost use Rattle.print.specs.Sheet.{figure_text, tenths_text, spread_text};
-ghost use Rattle.print.specs.Steps.{Writes, value_room, spread_room};
+ghost use Rattle.print.specs.Steps.{Writes, WritesIfRoom, value_room, spread_room};
 
 use crate::buffer::{put, put_decimal};
 
+// No value is longer, in bytes.
+const VALUE_ROOM: usize = 20;
+
 #[derive(Drop)]
-pub(crate) struct Lines<'a> {
-    pub(crate) out: &'a mut [u8],
-    // the place behind what was written, at most the buffer's length
-    pub(crate) at: usize,
+pub struct Lines<'a> {
+    pub out: &'a mut [u8],
+    // the place behind what was written; one past the buffer's length has no room
+    pub at: usize,
+}
+
+// So many bytes from a place on lie within a buffer of this length.
+fn has_room(length: usize, at: usize, room: usize) -> bool
+    ensures { result ≡ leb (at + room) length }
+{
+    if length < room {
+        return false;
+    }
+    at <= length - room
 }
 
 impl Lines<'_> {
+    // A text; where it has too little room nothing is written.
+    pub fn text(&mut self, text: &[u8])
+        ensures { WritesIfRoom self.old text.now (length text.now) self.new }
+    {
+        if !has_room(self.out.len(), self.at, text.len()) {
+            return;
+        }
+        self.put(text);
+    }
+
+    // A field; where there may be too little room nothing is written.
+    pub fn count(&mut self, key: &[u8], n: u64)
+        ensures { WritesIfRoom self.old (key.now ++ decimal n) (length key.now + value_room) self.new }
+    {
+        if self.out.len() < VALUE_ROOM {
+            return;
+        }
+        if !has_room(self.out.len() - VALUE_ROOM, self.at, key.len()) {
+            return;
+        }
+        self.put_count(key, n);
+    }
+
     pub(crate) fn put(&mut self, text: &[u8])
         requires { self.old.at + length text.now ≤ length self.old.out.now }
         ensures { Writes self.old text.now (length text.now) self.new }

@@ -51,20 +51,20 @@ fn put_grades(lines: &mut Lines, s: Sheet)
     requires { lines.old.at + 124 ≤ length lines.old.out.now }
     ensures { Writes lines.old (ahead line_end (grades s)) 124 lines.new }
 {
-    lines.put_count(b"\nlolo=", s.lolo);
-    lines.put_count(b"\nlo=", s.lo);
-    lines.put_count(b"\nok=", s.ok);
-    lines.put_count(b"\nhi=", s.hi);
-    lines.put_count(b"\nhihi=", s.hihi);
+    lines.put_count(b"\nlolo=", s.counts.lolo);
+    lines.put_count(b"\nlo=", s.counts.lo);
+    lines.put_count(b"\nok=", s.counts.ok);
+    lines.put_count(b"\nhi=", s.counts.hi);
+    lines.put_count(b"\nhihi=", s.counts.hihi);
 }
 
 fn put_faults(lines: &mut Lines, s: Sheet)
     requires { lines.old.at + 84 ≤ length lines.old.out.now }
     ensures { Writes lines.old (ahead line_end (faults s)) 84 lines.new }
 {
-    lines.put_count(b"\nforeign=", s.foreign);
-    lines.put_count(b"\ndouble=", s.double);
-    lines.put_count(b"\ncrash=", s.crash);
+    lines.put_count(b"\nforeign=", s.counts.foreign);
+    lines.put_count(b"\ndouble=", s.counts.double);
+    lines.put_count(b"\ncrash=", s.counts.crash);
 }
 
 fn put_weights(lines: &mut Lines, s: Sheet)

@@ -1,6 +1,6 @@
 // A queue of waits: the first n places are taken, in the order in which the waits came. The others hold 0 and are not read.
-// A wait is a time, so sixteen bits hold it: a line is copied with each event. Places and a number beside them, since there is
-// no heap, and an unfit number comes in and is to be refused.
+// A wait is a time, so sixteen bits hold it. Places and a number beside them, since there is no heap, and an unfit number comes
+// in and is to be refused.
 #![tactic(auto)]
 
 ghost use Rattle.std.specs.Prelude.{◌≡◌, []};

@@ -62,6 +62,7 @@ impl Refusal {
 }
 
 impl Faults {
+    // 01's table, row by row in its order.
     pub fn first(self) -> Option<Refusal>
         ensures { result ≡ first_holding (table self) }
     {

@@ -32,7 +32,7 @@ pub fn reads_tally(e: Event) -> bool
 pub fn refused_running(status: u64, e: Event) -> bool
     ensures { result ≡ refused_running status e }
 {
-    matches!(e, Event::Run | Event::Setup(_) | Event::Store(_, _)) & (status == status::RUNNING)
+    matches!(e, Event::Run | Event::Setup(_) | Event::Store(_)) & (status == status::RUNNING)
 }
 
 // 9 emergency

@@ -36,7 +36,7 @@ module _ (s₀ : State) (es : List Event) (i : ℕ) (d : Event) where
   one_more_lem h = rw (add-one, take-suc es i d h) (run_more (record { state = s₀; history = [] }) (take i es) (get_or es i d))
 
   -- a plant and tallies after the first i events, with a turn more
-  pub turned-after : (p : Plant) (ts : List ℤ) → state_of p ts ≡ (ran s₀ (take i es)).state → i < length es → (r : Turned) (out : List ℤ)
+  pub turned_after : (p : Plant) (ts : List ℤ) → state_of p ts ≡ (ran s₀ (take i es)).state → i < length es → (r : Turned) (out : List ℤ)
       → r ≡ turned_by (state_of p ts) (get_or es i d) → out ≡ (step_on (state_of p ts) (get_or es i d)).state.tallies
       → state_of r.plant out ≡ (ran s₀ (take (i + 1) es)).state
-  turned-after p ts a h r out q o = rw (one_more_lem h, q, o) (ap (λ (x : State). (step_on x (get_or es i d)).state) a)
+  turned_after p ts a h r out q o = rw (one_more_lem h, q, o) (ap (λ (x : State). (step_on x (get_or es i d)).state) a)

@@ -51,6 +51,7 @@ impl Plant {
 }
 
 // Events, in their order, on a fresh plant, whose tallies are cleared first.
+#[tactic(auto, unfolding(claim::specs::Run::run_from, claim::specs::Run::run), using(claim::proofs::Every::claim))]
 pub fn replay(tallies: &mut [i64], events: &[Event]) -> Plant
     ensures plant { result ≡ plant_in (replayed (length tallies.old) events.now).state }
     ensures memory { tallies.new ≡ (replayed (length tallies.old) events.now).state.tallies }

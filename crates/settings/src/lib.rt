@@ -88,24 +88,23 @@ impl Settings {
         self.ranged() & self.ordered()
     }
 
-    // 1 LoLo, 2 Lo, 3 OK, 4 Hi, 5 HiHi. A number and no enum: it is printed, is a bit of the masks, and 6 to 8 are the other
-    // verdicts.
+    // The verdict of a net weight in divisions, LoLo to HiHi.
     #[tactic(auto, unfolding(crate::specs::Grade::grade_of))]
     pub fn grade(self, net: i64) -> u64
         ensures { result ≡ grade_of self net }
     {
         if net < self.lolo {
-            return 1;
+            return verdict::LOLO;
         }
         if net < self.lo {
-            return 2;
+            return verdict::LO;
         }
         if net <= self.hi {
-            return 3;
+            return verdict::OK;
         }
         if net <= self.hihi {
-            return 4;
+            return verdict::HI;
         }
-        5
+        verdict::HIHI
     }
 }

@@ -3,7 +3,8 @@ use Rattle.std.specs.Prelude.{◌≡◌, List, [], ◌∷◌, map, ℤ, pos, neg
 use Rattle.weight.specs.Mean.{rounded}
 use Rattle.settings.specs.Grade.{grade_of}
 use Rattle.settings.specs.declared.Settings.{Settings}
-use Rattle.part.specs.Part.{Part, empty_part, added_part}
+use Rattle.part.specs.Part.{empty_part, added_part}
+use Rattle.part.specs.declared.part.Part.{Part}
 use Rattle.sheet.specs.Sheet.{sheet_of}
 
 -- the record of the text's example

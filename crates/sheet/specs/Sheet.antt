@@ -5,7 +5,7 @@ use Rattle.weight.specs.Mean.{rounded, mean_of}
 use Rattle.spread.specs.Figures.{sd_of, sdp_of}
 use Rattle.tally.specs.Tally.{total}
 use Rattle.tally.specs.declared.tally.Tally.{Tally}
-use Rattle.part.specs.Part.{Part}
+use Rattle.part.specs.declared.part.Part.{Part}
 use Rattle.sheet.specs.declared.sheet.Sheet.{Sheet}
 
 -- "For n = 0 max, min, mean, deviation and sdp are none"
@@ -18,15 +18,8 @@ sheet_of p target =
     let t = p.tally in
     record {
       total = total t;
-      ng = total t - t.ok;
-      lolo = t.lolo;
-      lo = t.lo;
-      ok = t.ok;
-      hi = t.hi;
-      hihi = t.hihi;
-      foreign = t.foreign;
-      double = t.double;
-      crash = t.crash;
+      ng = total t - t.counts.ok;
+      counts = t.counts;
       max = unless_none t t.largest;
       min = unless_none t t.smallest;
       sum = t.sum;
@@ -34,5 +27,5 @@ sheet_of p target =
       deviation = unless_none t (rounded t.sum t.n -ℤ target);
       sd = sd_of t;
       sdp = sdp_of t;
-      classes = p.counts;
+      classes = p.classes;
     }

@@ -19,8 +19,7 @@ pub(crate) fn report_on(
     if let Some(refusal) = report_refusal(count, own, tallies, code) {
         return Err(refusal);
     }
-    let t = tallies::read(tallies, code);
-    Ok(sheet_of(t, tallies::classes(tallies, code), own.target))
+    Ok(sheet_of(tallies::read(tallies, code), own.target))
 }
 
 // What refuses a report. The other rows of the table are an event's, or other text's.
@@ -45,5 +44,5 @@ fn memory_wrong(count: u64, own: Settings, tallies: &[i64], code: u64) -> bool
         | is_code(code)
             & (!own.fit()
                 | !tallies::fit_at(tallies, code)
-                | !spread::fit(tallies::read(tallies, code)))
+                | !spread::fit(tallies::read(tallies, code).tally))
 }

@@ -1,14 +1,13 @@
 // The figures of a tally.
 ghost use Rattle.std.specs.Prelude.{◌≡◌, true, ◌≤◌};
 ghost use Rattle.weight.specs.Weight.{is_weight};
-ghost use Rattle.tally.specs.Tally.{tally_limit, total};
+ghost use Rattle.tally.specs.Tally.{tally_limit, counted_in};
 ghost use Rattle.spread.specs.Figures.{report_fit};
-ghost use Rattle.tallies.specs.Memory.{held};
 ghost use Rattle.sheet.specs.Sheet.{unless_none, sheet_of};
 ghost use Rattle.sheet.specs.Steps.{weight_or_none, less_target};
 
-use part::{CLASSES, Classes};
-use tally::Tally;
+use part::{CLASSES, Part};
+use tally::{Counts, Tally};
 use weight::mean_of;
 
 // A code's figures. Counts are of verdicts, up to 999,999 together; weights are in divisions; None where 01 prints none.
@@ -16,14 +15,7 @@ use weight::mean_of;
 pub struct Sheet {
     pub total: u64,
     pub ng: u64,
-    pub lolo: u64,
-    pub lo: u64,
-    pub ok: u64,
-    pub hi: u64,
-    pub hihi: u64,
-    pub foreign: u64,
-    pub double: u64,
-    pub crash: u64,
+    pub counts: Counts,
     pub max: Option<i64>,
     pub min: Option<i64>,
     pub sum: i64,
@@ -36,23 +28,18 @@ pub struct Sheet {
     pub classes: [u64; CLASSES],
 }
 
-pub(crate) fn sheet_of(t: Tally, c: Classes, target: i64) -> Sheet
-    requires { (report_fit t ≡ true) × (is_weight target ≡ true) }
-    ensures { result ≡ sheet_of (held t c) target }
+pub(crate) fn sheet_of(p: Part, target: i64) -> Sheet
+    requires { (report_fit p.tally ≡ true) × (is_weight target ≡ true) }
+    ensures { result ≡ sheet_of p target }
 {
-    let total = total_of(t);
+    let t = p.tally;
+    let classes = p.classes;
+    let total = total_of(t.counts);
     let mean = mean_of(t.sum, t.n);
     Sheet {
         total,
-        ng: total - t.ok,
-        lolo: t.lolo,
-        lo: t.lo,
-        ok: t.ok,
-        hi: t.hi,
-        hihi: t.hihi,
-        foreign: t.foreign,
-        double: t.double,
-        crash: t.crash,
+        ng: total - t.counts.ok,
+        counts: t.counts,
         max: unless_none(t, t.largest),
         min: unless_none(t, t.smallest),
         sum: t.sum,
@@ -60,15 +47,15 @@ pub(crate) fn sheet_of(t: Tally, c: Classes, target: i64) -> Sheet
         deviation: deviation_of(mean, target),
         sd: spread::sd(t),
         sdp: spread::sdp(t),
-        classes: c.listed(),
+        classes,
     }
 }
 
-fn total_of(t: Tally) -> u64
-    requires { total t ≤ tally_limit }
-    ensures { result ≡ total t }
+fn total_of(c: Counts) -> u64
+    requires { counted_in c ≤ tally_limit }
+    ensures { result ≡ counted_in c }
 {
-    t.lolo + t.lo + t.ok + t.hi + t.hihi + t.foreign + t.double + t.crash
+    c.lolo + c.lo + c.ok + c.hi + c.hihi + c.foreign + c.double + c.crash
 }
 
 // x, a figure of the graded verdicts, where there are any.

@@ -1,6 +1,6 @@
 -- One sorter among others that are off and sort nothing. Each law is by induction over the number of sorters. Assumes nothing.
 use mathlib.Core.Path.{◌≡◌, refl, ap, ◌∙◌}
-use mathlib.Core.Bool.{Bool, true, false, ◌||◌, and-false}
+use mathlib.Core.Bool.{Bool, true, false, ◌||◌, and-false, or-false}
 use mathlib.Core.List.{List, [], ◌∷◌}
 use Prim.Native.Nat.{ℕ, zero, suc, ◌+◌, ◌*◌, ◌-◌, ◌^◌, ◌<◌}
 use native.Mathlib.Omega.{arith}
@@ -17,10 +17,10 @@ use Rattle.queue.specs.Queue.{waits_of, laid, waiting, is_empty, queue_ticked, o
 use Rattle.device.specs.Sorter.{sorting, sorter_ticked, sorter_off}
 use Rattle.device.specs.declared.sorter.Sorter.{Sorter}
 use Rattle.device.proofs.Keeps.{off_idle}
-use Rattle.event.specs.Setup.{fresh_sorter, sorter_count}
+use Rattle.event.specs.Setup.{fresh_sorter, sorter_count, sorts_nothing}
 use Rattle.event.specs.declared.SorterSetup.{SorterSetup}
 use Rattle.sorters.specs.Sorters.{ticked_as, entered, blocks, on_bit, all_ticked, all_entered, any_blocks, any_sorting, on_bits, all_off}
-use Rattle.sorters.specs.OneAlone.{sorts_nothing, OneAlone}
+use Rattle.sorters.specs.OneAlone.{OneAlone}
 
 off : ℕ → List Sorter
 off n = replicate n sorter_off
@@ -48,10 +48,6 @@ module _ (f : Sorter → SorterSetup → Sorter) (idle : (c : SorterSetup) → s
 
 -- ---- a test that a sorter that is off does not pass where its mask is 0
 
-or_false : (b : Bool) → (b || false) ≡ b
-or_false true = refl
-or_false false = refl
-
 module _ (p : Sorter → SorterSetup → Bool) (idle : (c : SorterSetup) → sorts_nothing c ≡ true → p sorter_off c ≡ false) where
   off_any : (n : ℕ) (cs : List SorterSetup) → all_of sorts_nothing cs ≡ true → any_pair p (off n) cs ≡ false
   unfolding any_pair all_of off
@@ -66,7 +62,7 @@ module _ (p : Sorter → SorterSetup → Bool) (idle : (c : SorterSetup) → sor
   unfolding any_pair all_of off
   alone_any zero k s cs n q h = absurd (omega (arith, q))
   alone_any (suc n) k s [] e q h = absurd (omega (arith, e))
-  alone_any (suc n) zero s (c ∷ cs) e q h = ap (◌||◌ (p s c)) (off_any n cs (both true (all_of sorts_nothing cs) h).1) ∙ or_false (p s c)
+  alone_any (suc n) zero s (c ∷ cs) e q h = ap (◌||◌ (p s c)) (off_any n cs (both true (all_of sorts_nothing cs) h).1) ∙ or-false (p s c)
   alone_any (suc n) (suc k) s (c ∷ cs) e q h =
       let b = both (sorts_nothing c) (all_of sorts_nothing (set cs k fresh_sorter)) h in
       rw (idle c b.0) (alone_any n k s cs (omega (arith, e)) (omega (arith, q)) b.1)
@@ -81,7 +77,7 @@ off-quiet (suc n) = rw off_idle (off-quiet n)
 alone-sorting : (n k : ℕ) (s : Sorter) → k < n → any_of sorting (set (off n) k s) ≡ sorting s
 unfolding any_of off
 alone-sorting zero k s p = absurd (omega (arith, p))
-alone-sorting (suc n) zero s p = ap (◌||◌ (sorting s)) (off-quiet n) ∙ or_false (sorting s)
+alone-sorting (suc n) zero s p = ap (◌||◌ (sorting s)) (off-quiet n) ∙ or-false (sorting s)
 alone-sorting (suc n) (suc k) s p = rw off_idle (alone-sorting n k s (omega (arith, p)))
 
 off_dark : (n : ℕ) → on_bits (off n) ≡ 0
@@ -121,9 +117,9 @@ idle_blocks : (v : ℕ) (c : SorterSetup) → sorts_nothing c ≡ true → block
 unfolding blocks
 idle_blocks v c h = rw (no_bit v c h) refl
 
-pub one-alone : OneAlone
+pub one_of_six : OneAlone
 unfolding all_ticked all_entered any_blocks any_sorting all_off ticked_as entered blocks off
-one-alone =
+one_of_six =
     record {
       ticks = λ s cs k o. alone-each ticked_as idle_ticks sorter_count k s cs o.six o.place o.others;
       queues = λ v s cs k o. alone-each (entered v) (idle_enters v) sorter_count k s cs o.six o.place o.others;

@@ -1,2 +1,3 @@
 pub mod Keeps
 pub mod Alone
+pub mod Found

@@ -1,21 +1,17 @@
 -- 02, T-01: one sorter alone, the masks of the others 0 and the others off, does what the one sorter of 01 did.
-use Rattle.std.specs.Prelude.{ℕ, ◌^◌, ◌<◌, ◌≡◌, Bool, true, ◌&&◌, List, eqb, ltb, length, get_or, set}
+use Rattle.std.specs.Prelude.{ℕ, ◌^◌, ◌<◌, ◌≡◌, true, ◌&&◌, List, ltb, length, get_or, set}
 use Rattle.laws.specs.Choice.{when◌then◌else◌}
 use Rattle.lists.specs.Each.{all_of}
 use Rattle.mask.specs.Bits.{marked}
 use Rattle.device.specs.Sorter.{full, sorting, sorter_ticked, queued}
 use Rattle.device.specs.declared.sorter.Sorter.{Sorter}
-use Rattle.event.specs.Setup.{fresh_sorter, sorter_count}
+use Rattle.event.specs.Setup.{fresh_sorter, sorter_count, sorts_nothing}
 use Rattle.event.specs.declared.SorterSetup.{SorterSetup}
 use Rattle.sorters.specs.Sorters.{all_ticked, all_entered, any_blocks, any_sorting, on_bits, all_off}
 
 -- sorter k + 1 is s, the others are off
 abbrev pub alone : ℕ → Sorter → List Sorter
 alone k s = set all_off k s
-
--- its mask is 0
-abbrev pub sorts_nothing : SorterSetup → Bool
-sorts_nothing c = eqb c.sort 0
 
 -- what six sorters are set to, where only sorter k + 1 may sort: were it set as fresh, none did
 pub record OnlySorts (cs : List SorterSetup) (k : ℕ) : Type 0 where

@@ -3,7 +3,6 @@
 
 ghost use Rattle.std.specs.Prelude.{◌≡◌, not};
 ghost use Rattle.device.specs.Sorter.{sorter_fit};
-ghost use Rattle.event.specs.Setup.{sorter_setups};
 ghost use Rattle.sorters.specs.OneAlone.{OneAlone};
 ghost use Rattle.sorters.specs.Sorters.{ticked_as, entered, blocks, all_off, all_ticked, all_entered, any_blocks, any_sorting, on_bits, all_fit};
 
@@ -50,7 +49,8 @@ fn unfit(sorter: Sorter) -> bool
     sorter.sorting() && !sorter.fit()
 }
 
-// ---- all six: sorter k stands at k - 1
+// ---- all six: sorter k stands at k - 1. The setup stands beside them and not with them in one value: it is the line's and stays,
+// while they change on every tick.
 
 #[tactic(auto, unfolding(crate::specs::Sorters::all_off))]
 pub fn all_off() -> [Sorter; Setup::SORTERS]
@@ -61,14 +61,14 @@ pub fn all_off() -> [Sorter; Setup::SORTERS]
 
 // A running tick. No loop: the six are then kept apart, and those at rest where they are.
 pub fn all_ticked(sorters: [Sorter; Setup::SORTERS], setup: Setup) -> [Sorter; Setup::SORTERS]
-    ensures { result ≡ all_ticked sorters (sorter_setups setup) }
+    ensures { result ≡ all_ticked sorters setup.sorters }
 {
-    let one = ticked_as(sorters[0], setup.sorter1);
-    let two = ticked_as(sorters[1], setup.sorter2);
-    let three = ticked_as(sorters[2], setup.sorter3);
-    let four = ticked_as(sorters[3], setup.sorter4);
-    let five = ticked_as(sorters[4], setup.sorter5);
-    let six = ticked_as(sorters[5], setup.sorter6);
+    let one = ticked_as(sorters[0], setup.sorters[0]);
+    let two = ticked_as(sorters[1], setup.sorters[1]);
+    let three = ticked_as(sorters[2], setup.sorters[2]);
+    let four = ticked_as(sorters[3], setup.sorters[3]);
+    let five = ticked_as(sorters[4], setup.sorters[4]);
+    let six = ticked_as(sorters[5], setup.sorters[5]);
     [one, two, three, four, five, six]
 }
 
@@ -78,10 +78,10 @@ pub fn all_entered(
     setup: Setup,
     verdict: u64,
 ) -> [Sorter; Setup::SORTERS]
-    ensures { result ≡ all_entered verdict sorters (sorter_setups setup) }
+    ensures { result ≡ all_entered verdict sorters setup.sorters }
 {
     let mut all = sorters;
-    for (i, setup) in setup.sorters().iter().enumerate() {
+    for (i, setup) in setup.sorters.iter().enumerate() {
         all[i] = entered(all[i], *setup, verdict);
     }
     all
@@ -89,18 +89,16 @@ pub fn all_entered(
 
 // One of those queues is full.
 pub fn any_blocks(sorters: [Sorter; Setup::SORTERS], setup: Setup, verdict: u64) -> bool
-    ensures { result ≡ any_blocks verdict sorters (sorter_setups setup) }
+    ensures { result ≡ any_blocks verdict sorters setup.sorters }
 {
-    let setups = setup.sorters();
-    for (sorter, setup) in sorters.iter().zip(&setups) {
-        if blocks(*sorter, *setup, verdict) {
-            return true;
-        }
-    }
-    false
+    sorters
+        .iter()
+        .zip(&setup.sorters)
+        .any(|(sorter, setup)| blocks(*sorter, *setup, verdict))
 }
 
 // Something waits at one of them, or one is on. No early end: a reply is made on every event, and straight code is inlined.
+#[tactic(auto, unfolding(crate::specs::Sorters::any_sorting), using(crate::proofs::Found::one_tested, crate::proofs::Found::all_tested))]
 pub fn any_sorting(sorters: [Sorter; Setup::SORTERS]) -> bool
     ensures { result ≡ any_sorting sorters }
 {
@@ -129,6 +127,7 @@ pub fn all_fit(sorters: [Sorter; Setup::SORTERS]) -> bool
 }
 
 // One sorter, with the masks of the others 0 and the others off, does what the one sorter of 01 did.
+#[tactic(auto, using(crate::proofs::Alone::one_of_six))]
 pub fn one_alone()
     ensures { OneAlone }
 {}

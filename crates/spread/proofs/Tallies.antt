@@ -18,6 +18,7 @@ use Rattle.std.specs.Prelude.{None}
 use Rattle.spread.proofs.Roots.{root-largest, root-only}
 
 pub record Fit (t : Tally) : Type 0 where
+  pub fit : tally_fit t ≡ true
   pub tally : FitTally t
   pub apart : nat_abs t.sum * nat_abs t.sum ≤ t.n * t.squares
 
@@ -25,7 +26,7 @@ pub fit-facts : (t : Tally) → report_fit t ≡ true → Fit t
 unfolding report_fit
 fit-facts t e =
     let a = both (tally_fit t) (leb (nat_abs t.sum * nat_abs t.sum) (t.n * t.squares)) e in
-    record { tally = fit_tells t a.0; apart = leb-true _ _ a.1 }
+    record { fit = a.0; tally = fit_tells t a.0; apart = leb-true _ _ a.1 }
 
 -- n ≤ 2·m and q ≤ n·10^12 leave room for `times` up to 112
 pub below-first-end : (n m q s : ℕ) → 0 < m → m ≤ n → n ≤ m + 1 → q ≤ n * 1000000000000 → times * (n * q - s * s) < 15000000 * 15000000 * (n * m)

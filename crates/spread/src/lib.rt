@@ -2,8 +2,8 @@
 // it. Below, n is the number of its graded verdicts, q their sum of squares and s the size of their sum.
 #![tactic(auto)]
 
-ghost use Rattle.std.specs.Prelude.{◌≡◌, true, ◌+◌, ◌*◌, ◌≤◌, ◌<◌, leb};
-ghost use Rattle.tally.specs.Tally.{tally_limit};
+ghost use Rattle.std.specs.Prelude.{◌≡◌, true, ◌+◌, ◌*◌, ◌≤◌, ◌<◌, leb, nat_abs};
+ghost use Rattle.tally.specs.Tally.{tally_limit, tally_fit};
 ghost use Rattle.spread.specs.Root.{Largest};
 ghost use Rattle.spread.specs.Figures.{report_fit, apart_of, times, spread_of, sd_of, sdp_of};
 ghost use Rattle.spread.specs.Theorem.{RootIsTheLargest};
@@ -19,14 +19,14 @@ use wide::Wide;
 const TIMES: u64 = 100;
 
 // Fit for a report: the spreads are roots of n * q - s * s, which must not be below 0.
+#[tactic(auto, unfolding(crate::specs::Figures::report_fit))]
 pub fn fit(t: Tally) -> bool
     ensures { result ≡ report_fit t }
 {
     if !t.fit() {
         return false;
     }
-    let s = size(t.sum);
-    Wide::product(s, s).at_most(Wide::of(t.squares).by(t.n))
+    sum_squared(t).at_most(n_times_q(t))
 }
 
 // The spread of a sample, over n * (n - 1): tenths of a division, below 15,000,000 for every tally.
@@ -68,11 +68,24 @@ fn apart(t: Tally) -> Wide
     requires { report_fit t ≡ true }
     ensures { Holds result (times * apart_of t) }
 {
+    n_times_q(t).less(sum_squared(t)).by(TIMES)
+}
+
+// n * q
+fn n_times_q(t: Tally) -> Wide
+    requires { tally_fit t ≡ true }
+    ensures { Holds result (t.n * t.squares) }
+{
+    Wide::of(t.squares).by(t.n)
+}
+
+// s * s
+fn sum_squared(t: Tally) -> Wide
+    requires { tally_fit t ≡ true }
+    ensures { Holds result (nat_abs t.sum * nat_abs t.sum) }
+{
     let s = size(t.sum);
-    Wide::of(t.squares)
-        .by(t.n)
-        .less(Wide::product(s, s))
-        .by(TIMES)
+    Wide::product(s, s)
 }
 
 // No `isqrt` of the library: x does not fit 64 bits.

@@ -1,6 +1,7 @@
 -- 01, "Line and memory" and "Events": the line's status and error, and when the conveyor runs.
 use Rattle.std.specs.Prelude.{ℕ, Bool, ◌&&◌, ◌||◌, not, eqb}
 use Rattle.laws.specs.Choice.{when◌then◌else◌}
+use Rattle.verdict.specs.Verdict.{foreign, two_on, crash}
 use Rattle.event.specs.Setup.{bench_mode}
 use Rattle.event.specs.Reply.{no_error}
 
@@ -25,6 +26,16 @@ plain_error = 0
 abbrev pub unsafe_error : ℕ
 unsafe_error = 1
 
+-- "error 2 for two-on, 5 foreign, 6 crash, 0 a grade"
+abbrev pub two_on_error : ℕ
+two_on_error = 2
+
+abbrev pub foreign_error : ℕ
+foreign_error = 5
+
+abbrev pub crash_error : ℕ
+crash_error = 6
+
 -- 02, T-04: "A change 0 to 1 with eight carried, ended ones included, pauses the line at once with error 7"
 abbrev pub ninth_error : ℕ
 ninth_error = 7
@@ -32,11 +43,15 @@ ninth_error = 7
 -- "error known here": none, 0, 1, those of `error_for`, and 7
 unfoldable pub error_known : ℕ → Bool
 error_known e =
-    eqb e no_error || eqb e plain_error || eqb e unsafe_error || eqb e 2 || eqb e 5 || eqb e 6 || eqb e ninth_error
+    eqb e no_error || eqb e plain_error || eqb e unsafe_error || eqb e two_on_error || eqb e foreign_error || eqb e crash_error || eqb e ninth_error
 
--- "error 2 for two-on, 5 foreign, 6 crash, 0 a grade"
+-- of a line that this verdict stops
 unfoldable pub error_for : ℕ → ℕ
-error_for v = when eqb v 7 then 2 else (when eqb v 6 then 5 else (when eqb v 8 then 6 else plain_error))
+error_for v =
+    when eqb v two_on then two_on_error
+    else (when eqb v foreign then foreign_error
+    else (when eqb v crash then crash_error
+    else plain_error))
 
 -- "Conveyor is 1 when running, in mode 2 only with nothing in hand."; 02, T-02: "Mode 4 keeps the conveyor at 0"
 unfoldable pub conveyor_runs : ℕ → ℕ → Bool → Bool

@@ -44,9 +44,9 @@ pub fn error_for(verdict: u64) -> u64
     ensures { result ≡ error_for verdict }
 {
     match verdict {
-        7 => TWO_ON,
-        6 => FOREIGN,
-        8 => CRASH,
+        verdict::TWO_ON => TWO_ON,
+        verdict::FOREIGN => FOREIGN,
+        verdict::CRASH => CRASH,
         _ => PLAIN,
     }
 }

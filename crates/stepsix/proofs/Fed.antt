@@ -25,7 +25,7 @@ use Rattle.device.specs.declared.sorter.Sorter.{Sorter}
 use Rattle.sorters.specs.Sorters.{blocks, any_blocks, all_off}
 use Rattle.detector.specs.Foreign.{signals_of, carrying, carried, ended_in, due, no_signal}
 use Rattle.detector.specs.declared.Foreign.{Foreign}
-use Rattle.event.specs.Setup.{fresh_setup, sorter_setups}
+use Rattle.event.specs.Setup.{fresh_setup}
 use Rattle.event.specs.declared.Setup.{Setup}
 use Rattle.event.specs.declared.SorterSetup.{SorterSetup}
 use Rattle.item.specs.Item.{ticked, item_fit, weighed}
@@ -39,7 +39,7 @@ use Rattle.line.specs.Sample.{after_weighing, step6}
 use Rattle.line.specs.declared.line.Line.{Line}
 use Rattle.possible.specs.Outcome.{outcome_at, outcome_of}
 use Rattle.possible.specs.Answer.{most_samples, count_fits, all_weights}
-use Rattle.stepsix.specs.StepSix.{Averages, weighing, fed}
+use Rattle.stepsix.specs.StepSix.{Averages, weighing, fed, SameAsStep6}
 
 -- ---- no foreign signal, and all queues empty
 
@@ -71,7 +71,7 @@ none-blocks v (s ∷ ss) (c ∷ cs) h =
 
 no_crash : (l : Line) (v : ℕ) → Clear l → or_crash l v ≡ v
 unfolding or_crash any_blocks
-no_crash l v c = rw (none-blocks v l.sorters (sorter_setups l.setup) c.queues)
+no_crash l v c = rw (none-blocks v l.sorters l.setup.sorters c.queues)
 
 -- so the outcome of a mean is its own
 judged-is : (l : Line) (s : Settings) (m : ℤ) → Clear l → (judged l s m).outcome ≡ outcome_at s m
@@ -147,7 +147,7 @@ from n s x (y ∷ xs) l z w e t g c =
     ∙ from n s y xs (with_item l (Averaging (suc (length xs)) (z +ℤ x))) (z +ℤ x) b.1 refl t (left_less n (length xs) z x g b.0) (record { no_signal = c.no_signal; queues = c.queues })
     ∙ ap (λ (q : ℤ). outcome_at s (rounded q n)) (+ℤ_assoc z x m ∙ ap (λ (q : ℤ). z +ℤ q) (+ℤ_comm x m))
 
-pub same : (l : Line) (s : Settings) (xs : List ℤ) → count_fits (length xs) ≡ true → all_weights xs ≡ true → Averages l (length xs)
+same : (l : Line) (s : Settings) (xs : List ℤ) → count_fits (length xs) ≡ true → all_weights xs ≡ true → Averages l (length xs)
     → (fed l s xs).outcome ≡ outcome_of s xs
 same l s [] h w a = absurd (let b = both (leb 1 0) (leb 0 most_samples) h in omega (arith, leb-true 1 0 b.0))
 same l s (x ∷ xs) h w a =
@@ -160,25 +160,11 @@ same l s (x ∷ xs) h w a =
 -- ---- a line that averages n samples: the fresh one, with ta and its item
 
 setup_with : ℕ → Setup
-setup_with n =
-    let f = fresh_setup in
-    record {
-      mode = f.mode;
-      edge = f.edge;
-      tc = f.tc;
-      tw = f.tw;
-      ta = n;
-      tf = f.tf;
-      sorter1 = f.sorter1;
-      sorter2 = f.sorter2;
-      sorter3 = f.sorter3;
-      sorter4 = f.sorter4;
-      sorter5 = f.sorter5;
-      sorter6 = f.sorter6;
-      stop = f.stop;
-      need = f.need;
-    }
+setup_with n = record fresh_setup { ta = n }
 
-pub a-line : (n : ℕ) → (l : Line) × Averages l n
+a-line : (n : ℕ) → (l : Line) × Averages l n
 unfolding setup_with fresh_line no_signal carrying carried signals_of laid waits_of waiting is_empty all_off sorter_off all_of
 a-line n = (with_item (with_setup fresh_line (setup_with n)) (Averaging n (pos 0)), record { item = refl; ta = refl; no_signal = refl; queues = refl })
+
+pub as_step_6 : SameAsStep6
+as_step_6 = record { same = same; some = a-line }

@@ -8,10 +8,9 @@ use Rattle.device.specs.declared.sorter.Sorter.{Sorter}
 use Rattle.detector.specs.Foreign.{carried}
 use Rattle.event.specs.declared.Sample.{Sample}
 use Rattle.item.specs.declared.Item.TheVariants.{Averaging}
-use Rattle.line.specs.Effect.{plain}
+use Rattle.line.specs.Effect.{Effect, plain}
 use Rattle.line.specs.Sample.{tick_of, step6}
 use Rattle.line.specs.declared.line.Line.{Line}
-use Rattle.line.specs.declared.effect.Effect.{Effect}
 use Rattle.possible.specs.Outcome.{outcome_of}
 use Rattle.possible.specs.Answer.{count_fits, all_weights}
 

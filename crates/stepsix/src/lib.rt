@@ -4,6 +4,7 @@
 ghost use Rattle.stepsix.specs.StepSix.{SameAsStep6};
 
 // What samples "would give" is what a line's step 6 gives that is fed them one by one.
+#[tactic(auto, using(crate::proofs::Fed::as_step_6))]
 pub fn same_as_step_6()
     ensures { SameAsStep6 }
 {}

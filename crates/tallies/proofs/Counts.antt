@@ -23,8 +23,8 @@ small_at (x ∷ xs) zero h a = (both (small_count x) (all_of small_count xs) a).
 small_at (x ∷ xs) (suc i) h a = small_at xs i (omega arith) (both (small_count x) (all_of small_count xs) a).1
 
 -- it is its size, which is small
-pub small_is : (x : ℤ) → small_count x ≡ true → (x ≡ pos (nat_abs x)) × (nat_abs x ≤ 1048575)
-small_is (pos a) h = (refl, leb-true a 1048575 (both (le_z (pos 0) (pos a)) (le_z (pos a) (pos 1048575)) h).1)
+pub small_is : (x : ℤ) → small_count x ≡ true → (x ≡ pos (nat_abs x)) × (nat_abs x ≤ 999999)
+small_is (pos a) h = (refl, leb-true a 999999 (both (le_z (pos 0) (pos a)) (le_z (pos a) (pos 999999)) h).1)
 small_is (negsuc a) h = never h
 
 pub small_counts_lem : (l : List ℤ) → all_of small_count l ≡ true → all_of (le_z (pos 0)) l ≡ true
@@ -32,10 +32,10 @@ unfolding all_of
 small_counts_lem [] h = refl
 small_counts_lem (x ∷ xs) h =
     let b = both (small_count x) (all_of small_count xs) h in
-    and_intro (both (le_z (pos 0) x) (le_z x (pos 1048575)) b.0).0 (small_counts_lem xs b.1)
+    and_intro (both (le_z (pos 0) x) (le_z x (pos 999999)) b.0).0 (small_counts_lem xs b.1)
 
 -- counts of which one is not small do not add to n
-large_sum : (l : List ℤ) → all_of small_count l ≡ false → all_of (le_z (pos 0)) l ≡ true → 1048575 < add_up (map nat_abs l)
+large_sum : (l : List ℤ) → all_of small_count l ≡ false → all_of (le_z (pos 0)) l ≡ true → 999999 < add_up (map nat_abs l)
 unfolding all_of add_up
 large_sum [] h c = never (sym h)
 large_sum (negsuc a ∷ xs) h c = never c
@@ -45,8 +45,8 @@ large_sum (pos a ∷ xs) h c =
     (λ y. omega (arith, large_sum xs (rw y at h) d.1))
     (λ n. omega (arith, over a d.0 n))
   where
-    over : (a : ℕ) → le_z (pos 0) (pos a) ≡ true → small_count (pos a) ≡ false → 1048575 < a
-    over a t n = leb-false a 1048575 (rw t at n)
+    over : (a : ℕ) → le_z (pos 0) (pos a) ≡ true → small_count (pos a) ≡ false → 999999 < a
+    over a t n = leb-false a 999999 (rw t at n)
 
 pub large_fails : (l : List ℤ) (n : ℕ) → n ≤ 999999 → all_of small_count l ≡ false → (all_of (le_z (pos 0)) l && eqb (add_up (map nat_abs l)) n) ≡ false
 large_fails l n m h =

@@ -1,30 +1,21 @@
 -- What stands behind the first numbers of a part. Assumes nothing.
-use mathlib.Core.Path.{◌≡◌, refl}
-use mathlib.Core.List.{List, [], ◌++◌, append-nil}
-use Prim.Native.Nat.{ℕ, zero, suc, ◌+◌, ◌-◌, ◌<◌}
-use native.Mathlib.Decide.{dec_le}
-use native.Mathlib.Nat.{lt_of_not-le}
+use mathlib.Core.Path.{◌≡◌, refl, ap}
+use mathlib.Core.List.{List, [], ◌∷◌, map}
+use Prim.Native.Nat.{ℕ, ◌-◌}
 use native.Mathlib.Omega.{arith}
 use lib.IntN.{ℤ}
-use lib.ListN.{length, take, drop, length-drop, drop_of_length-le}
-use lib.Seq.{take_all, take-add, drop_at, length-take-le}
+use Rattle.lists.specs.Each.{each_pair}
+use lib.ListN.{length, take, drop, length-drop}
+use lib.Seq.{take_all}
 
 -- what follows the first k, as a part of a slice is given
 pub tail-is : (k : ℕ) (l : List ℤ) → take (length l - k) (drop k l) ≡ drop k l
 tail-is k l = take_all (length l - k) (drop k l) (simp length-drop (omega arith))
 
-take_none : (n : ℕ) → ◌≡◌ {A = List ℤ} (take n []) []
-take_none zero = refl
-take_none (suc n) = refl
-
--- the class counts of a part are those behind its tally
-pub behind : (k m : ℕ) (l : List ℤ) → drop k (take (k + m) l) ≡ take m (drop k l)
-behind k m l =
-    rw (take-add k m l)
-    (elim (dec_le k (length l)) [
-      | yes h ↦ drop_at (take k l) (take m (drop k l)) k (length-take-le k l h)
-      | no f ↦ short (lt_of_not-le f)
-    ])
-  where
-    short : length l < k → drop k (take k l ++ take m (drop k l)) ≡ take m (drop k l)
-    short h = rw (drop_of_length-le l {i = k} (omega arith), take_all k l (omega arith), take_none m, append-nil l) (drop_of_length-le l {i = k} (omega arith))
+-- where each place was given by the same place of a list as long, the list itself is there
+pub each_given : {A B : Type 0} (f : B → A) (xs : List A) (ys : List B) → length xs ≡ length ys → each_pair (λ (x : A) (y : B). f y) xs ys ≡ map f ys
+unfolding each_pair
+each_given f [] [] h = refl
+each_given f [] (y ∷ ys) h = absurd (omega arith)
+each_given f (x ∷ xs) [] h = absurd (omega arith)
+each_given {A} f (x ∷ xs) (y ∷ ys) h = ap (λ (l : List A). f y ∷ l) (each_given f xs ys (omega arith))

@@ -16,16 +16,16 @@ use Rattle.laws.proofs.Tests.{both, and_intro}
 use Rattle.lists.specs.Each.{all_of}
 use Rattle.lists.specs.Counts.{add_up}
 use Rattle.tally.specs.Tally.{tally_fit}
-use Rattle.part.specs.Part.{Part, part_fit}
-use Rattle.part.specs.Classes.{packed}
-use Rattle.part.proofs.Laws.{fit-part, kept-counts}
-use Rattle.tallies.specs.Memory.{part_numbers, part, tally_of, part_of, unsigned, numbers_fit, part_at, part_at_fit, lies, fit_at, read_at, with_part, written, held, zeros, tallies_length}
+use Rattle.part.specs.Part.{part_fit}
+use Rattle.part.specs.declared.part.Part.{Part}
+use Rattle.part.proofs.Laws.{fit-part}
+use Rattle.tallies.specs.Memory.{part_numbers, part, tally_of, part_of, unsigned, numbers_fit, part_at, part_at_fit, lies, fit_at, read_at, with_part, written, zeros, tallies_length}
 
 -- a part is as many numbers as it should be
-pub numbers_length : (p : Part) → length p.counts ≡ 21 → length (part_numbers p) ≡ 34
+pub numbers_length : (p : Part) → length p.classes ≡ 21 → length (part_numbers p) ≡ 34
 numbers_length p l = simp length-map (omega arith)
 
-module _ (ts : List ℤ) (code : ℕ) (p : Part) (l : length p.counts ≡ 21) (room : code * 34 + 34 ≤ length ts) where
+module _ (ts : List ℤ) (code : ℕ) (p : Part) (l : length p.classes ≡ 21) (room : code * 34 + 34 ≤ length ts) where
   pub length_with : length (with_part ts code p) ≡ length ts
   unfolding with_part
   length_with =
@@ -51,7 +51,7 @@ module _ (ts : List ℤ) (code : ℕ) (p : Part) (l : length p.counts ≡ 21) (r
 mid_is : (a k : ℕ) (l : List ℤ) → a ≤ length l → take k (drop a l) ≡ drop a (take (a + k) l)
 mid_is a k l h = rw (take-add a k l) (sym (drop_at (take a l) (take k (drop a l)) a (length-take-le a l h)))
 
-module _ (ts : List ℤ) (code other : ℕ) (p : Part) (l : length p.counts ≡ 21) (room : code * 34 + 34 ≤ length ts) where
+module _ (ts : List ℤ) (code other : ℕ) (p : Part) (l : length p.classes ≡ 21) (room : code * 34 + 34 ≤ length ts) where
   part-before : other < code → part (with_part ts code p) other ≡ part ts other
   unfolding part with_part
   part-before o =
@@ -113,24 +113,24 @@ none_below (x ∷ xs) = and_intro (leb-zero x) (none_below xs)
 
 pub part_of-numbers : (p : Part) → part_of (part_numbers p) ≡ p
 unfolding part_of tally_of
-part_of-numbers p = rw (abs_pos p.counts)
+part_of-numbers p = rw (abs_pos p.classes)
 
 numbers-unsigned : (p : Part) → unsigned (part_numbers p) && all_of (le_z (pos 0)) (drop 13 (part_numbers p)) ≡ true
 unfolding unsigned
 numbers-unsigned p =
     let t = p.tally in
     simp (
-      leb-zero t.lolo,
-      leb-zero t.lo,
-      leb-zero t.ok,
-      leb-zero t.hi,
-      leb-zero t.hihi,
-      leb-zero t.foreign,
-      leb-zero t.double,
-      leb-zero t.crash,
+      leb-zero t.counts.lolo,
+      leb-zero t.counts.lo,
+      leb-zero t.counts.ok,
+      leb-zero t.counts.hi,
+      leb-zero t.counts.hihi,
+      leb-zero t.counts.foreign,
+      leb-zero t.counts.double,
+      leb-zero t.counts.crash,
       leb-zero t.n,
       leb-zero t.squares,
-      none_below p.counts,
+      none_below p.classes,
     )
 
 pub numbers_fit_lem : (p : Part) → part_fit p ≡ true → numbers_fit (part_numbers p) ≡ true
@@ -138,7 +138,7 @@ unfolding numbers_fit
 numbers_fit_lem p h = rw (numbers-unsigned p, part_of-numbers p) h
 
 module _ (ts : List ℤ) (code : ℕ) (p : Part) (fit : part_fit p ≡ true) (len : length ts ≡ tallies_length) (low : code ≤ 99) where
-  count : length p.counts ≡ 21
+  count : length p.classes ≡ 21
   count = (fit-part p fit).count
 
   pub length_kept : length (with_part ts code p) ≡ tallies_length
@@ -161,7 +161,7 @@ pub length_zeros : length (zeros tallies_length) ≡ tallies_length
 unfolding zeros
 length_zeros = length-replicate 3400 (pos 0)
 
--- a fit part is fit as tally and class counts
+-- the numbers of a fit part are a fit part
 pub held-fit : (ts : List ℤ) (code : ℕ) → part_at_fit ts code ≡ true → part_fit (part_at ts code) ≡ true
 unfolding numbers_fit
 held-fit ts code h = (both (unsigned (part ts code) && all_of (le_z (pos 0)) (drop 13 (part ts code))) (part_fit (part_at ts code)) h).1
@@ -182,8 +182,3 @@ module _ (ts : List ℤ) (code : ℕ) (h : fit_at ts code ≡ true) where
   pub part-is-fit : part_fit (part_at ts code) ≡ true
   unfolding fit_at
   part-is-fit = held-fit ts code (both (lies ts code) (part_at_fit ts code) h).1
-
-  pub read_back : held (read_at ts code).tally (packed (read_at ts code).counts) ≡ read_at ts code
-  read_back =
-      let p = part_at ts code in
-      rw (read_is, kept-counts p (fit-part p part-is-fit)) refl

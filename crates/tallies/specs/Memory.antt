@@ -1,20 +1,19 @@
 -- 01, "Tallies lie in a second lent slice of numbers, 100 equal parts". A part is 34 numbers: those of the tally in the order of
 -- `numbers`, and behind them the 21 class counts of T-05.
-use Rattle.std.specs.Prelude.{ℕ, ◌+◌, ◌*◌, ◌/◌, ◌%◌, Bool, ◌&&◌, List, [], ◌∷◌, ◌++◌, map, leb, eqb, Option, Some, None, ℤ, pos, nat_abs, length, get_or, set, take, drop, replicate}
+use Rattle.std.specs.Prelude.{ℕ, ◌+◌, ◌*◌, Bool, ◌&&◌, List, [], ◌∷◌, ◌++◌, map, leb, eqb, Option, Some, None, ℤ, pos, nat_abs, length, get_or, take, drop, replicate}
 use Rattle.std.specs.Int.Signed.{le_z}
 use Rattle.laws.specs.Choice.{when◌then◌else◌}
 use Rattle.settings.specs.Settings.{last_code}
 use Rattle.tally.specs.declared.tally.Tally.{Tally}
 use Rattle.lists.specs.Each.{all_of}
-use Rattle.part.specs.Classes.{base, counts_of}
-use Rattle.part.specs.Part.{Part, empty_part, part_fit}
-use Rattle.part.specs.declared.classes.Classes.{Classes}
+use Rattle.part.specs.Part.{empty_part, part_fit}
+use Rattle.part.specs.declared.part.Part.{Part}
 
 -- the numbers of a tally, in their order
 abbrev pub numbers : Tally → List ℤ
 numbers t =
-    pos t.lolo ∷ pos t.lo ∷ pos t.ok ∷ pos t.hi ∷ pos t.hihi
-    ∷ pos t.foreign ∷ pos t.double ∷ pos t.crash
+    pos t.counts.lolo ∷ pos t.counts.lo ∷ pos t.counts.ok ∷ pos t.counts.hi ∷ pos t.counts.hihi
+    ∷ pos t.counts.foreign ∷ pos t.counts.double ∷ pos t.counts.crash
     ∷ pos t.n ∷ t.sum ∷ pos t.squares ∷ t.largest ∷ t.smallest ∷ []
 
 abbrev pub tally_length : ℕ
@@ -22,7 +21,7 @@ tally_length = 13
 
 -- the numbers of a part
 abbrev pub part_numbers : Part → List ℤ
-part_numbers p = numbers p.tally ++ map pos p.counts
+part_numbers p = numbers p.tally ++ map pos p.classes
 
 -- how many numbers a part has
 abbrev pub part_length : ℕ
@@ -40,14 +39,17 @@ part ts code = take part_length (drop (code * part_length) ts)
 unfoldable pub tally_of : List ℤ → Tally
 tally_of p =
     record {
-      lolo = nat_abs (get_or p 0 (pos 0));
-      lo = nat_abs (get_or p 1 (pos 0));
-      ok = nat_abs (get_or p 2 (pos 0));
-      hi = nat_abs (get_or p 3 (pos 0));
-      hihi = nat_abs (get_or p 4 (pos 0));
-      foreign = nat_abs (get_or p 5 (pos 0));
-      double = nat_abs (get_or p 6 (pos 0));
-      crash = nat_abs (get_or p 7 (pos 0));
+      counts =
+          record {
+            lolo = nat_abs (get_or p 0 (pos 0));
+            lo = nat_abs (get_or p 1 (pos 0));
+            ok = nat_abs (get_or p 2 (pos 0));
+            hi = nat_abs (get_or p 3 (pos 0));
+            hihi = nat_abs (get_or p 4 (pos 0));
+            foreign = nat_abs (get_or p 5 (pos 0));
+            double = nat_abs (get_or p 6 (pos 0));
+            crash = nat_abs (get_or p 7 (pos 0));
+          };
       n = nat_abs (get_or p 8 (pos 0));
       sum = get_or p 9 (pos 0);
       squares = nat_abs (get_or p 10 (pos 0));
@@ -65,7 +67,7 @@ unsigned p =
 
 -- the part whose numbers these are
 unfoldable pub part_of : List ℤ → Part
-part_of p = record { tally = tally_of p; counts = map nat_abs (drop tally_length p) }
+part_of p = record { tally = tally_of p; classes = map nat_abs (drop tally_length p) }
 
 -- code's part, as tally and class counts
 abbrev pub part_at : List ℤ → ℕ → Part
@@ -98,10 +100,6 @@ with_part ts code p = take (code * part_length) ts ++ (part_numbers p ++ drop (c
 abbrev pub written : List ℤ → ℕ → Part → List ℤ
 written ts code p = when lies ts code && part_fit p then with_part ts code p else ts
 
--- a tally, and class counts as they are kept
-abbrev pub held : Tally → Classes → Part
-held t c = record { tally = t; counts = counts_of c }
-
 -- "all zeros"
 unfoldable pub zeros : ℕ → List ℤ
 zeros k = replicate k (pos 0)
@@ -113,8 +111,4 @@ abbrev pub start_of : List ℤ → ℕ → Option ℕ
 start_of ts code = when lies ts code then Some (code * part_length) else None
 
 abbrev pub small_count : ℤ → Bool
-small_count x = le_z (pos 0) x && le_z x (pos 1048575)
-
--- three counts put at place k
-abbrev pub put_three : List ℤ → ℕ → ℕ → List ℤ
-put_three p k w = set (set (set p k (pos (w % base))) (k + 1) (pos (w / base % base))) (k + 2) (pos (w / base / base))
+small_count x = le_z (pos 0) x && le_z x (pos 999999)

@@ -11,7 +11,8 @@ use Rattle.laws.specs.Choice.{when◌then◌else◌}
 use Rattle.weight.specs.Weight.{is_weight}
 use Rattle.laws.proofs.Tests.{both, and_intro, if_ind}
 use Rattle.laws.proofs.Signed.{abs_add}
-use Rattle.tally.specs.Tally.{graded, total, tally_fit, has_room, is_grade, largest_with, smallest_with, counted_with, weighed_with, added, is_verdict}
+use Rattle.verdict.specs.Verdict.{is_verdict, is_grade}
+use Rattle.tally.specs.Tally.{graded, total, tally_fit, has_room, largest_with, smallest_with, counted_with, with_counts, weighed_with, added}
 use Rattle.tally.specs.Steps.{none_is_zero}
 use Rattle.tally.specs.declared.tally.Tally.{Tally}
 use Rattle.tally.proofs.Facts.{FitTally, fit_tells, square_le}
@@ -22,24 +23,27 @@ module _ (t : Tally) (v : ℕ) (net : ℤ) (f : tally_fit t ≡ true) (verdict :
   unfolding has_room
   below = ltb-true (total t) 999999 room
 
+  abbrev counted : Tally
+  counted = with_counts t (counted_with t.counts v)
+
   facts : FitTally t
   facts = fit_tells t f
 
-  counted-total : total (counted_with t v) ≤ 999999
+  counted-total : total counted ≤ 999999
   unfolding counted_with
   counted-total = omega (arith, below, ones v verdict)
 
-  counted-graded : (k : ℕ) → (when is_grade v then 1 else 0) ≡ k → t.n + k ≡ graded (counted_with t v)
+  counted-graded : (k : ℕ) → (when is_grade v then 1 else 0) ≡ k → t.n + k ≡ graded counted
   unfolding counted_with
   counted-graded k e = omega (arith, facts.grades, grade_ones v, e)
 
-  largest_weight_lem : is_weight (largest_with (counted_with t v) net) ≡ true
+  largest_weight_lem : is_weight (largest_with counted net) ≡ true
   unfolding largest_with counted_with
   largest_weight_lem =
       if_ind (λ (z : ℤ). is_weight z ≡ true) (eqb t.n 0) _ _ (λ _. w)
       (λ _. if_ind (λ (z : ℤ). is_weight z ≡ true) (lt_z t.largest net) _ _ (λ _. w) (λ _. le-leb _ _ facts.largest))
 
-  smallest-weight : is_weight (smallest_with (counted_with t v) net) ≡ true
+  smallest-weight : is_weight (smallest_with counted net) ≡ true
   unfolding smallest_with counted_with
   smallest-weight =
       if_ind (λ (z : ℤ). is_weight z ≡ true) (eqb t.n 0) _ _ (λ _. w)
@@ -51,7 +55,7 @@ module _ (t : Tally) (v : ℕ) (net : ℤ) (f : tally_fit t ≡ true) (verdict :
   squares-within : t.squares + nat_abs net * nat_abs net ≤ (t.n + 1) * 1000000000000
   squares-within = omega (arith, square_le (nat_abs net) (leb-true (nat_abs net) 999999 w), facts.bounds.squares)
 
-  graded-fit : is_grade v ≡ true → tally_fit (weighed_with (counted_with t v) net) ≡ true
+  graded-fit : is_grade v ≡ true → tally_fit (weighed_with counted net) ≡ true
   unfolding tally_fit weighed_with counted_with
   graded-fit g =
       and_intro (and_intro (and_intro (and_intro (and_intro (and_intro
@@ -69,12 +73,12 @@ module _ (t : Tally) (v : ℕ) (net : ℤ) (f : tally_fit t ≡ true) (verdict :
       leb (total t) 999999 && eqb t.n (graded t) && leb (nat_abs t.sum) (t.n * 999999) && leb t.squares (t.n * 1000000000000)
       && is_weight t.largest && is_weight t.smallest
 
-  other-fit : is_grade v ≡ false → tally_fit (counted_with t v) ≡ true
-  unfolding tally_fit counted_with
+  other-fit : is_grade v ≡ false → tally_fit counted ≡ true
+  unfolding tally_fit
   other-fit g =
       and_intro (and_intro (and_intro (and_intro (and_intro (and_intro
       (le-leb _ _ counted-total)
-      (eq-eqb t.n (graded (counted_with t v)) (omega (arith, counted-graded 0 (rw g refl)))))
+      (eq-eqb t.n (graded counted) (omega (arith, counted-graded 0 (rw g refl)))))
       (le-leb _ _ facts.bounds.sum))
       (le-leb _ _ facts.bounds.squares))
       (le-leb _ _ facts.largest))

@@ -1,5 +1,5 @@
 -- What a fit tally tells: plain facts of its numbers, which omega reads. Assumes nothing.
-use mathlib.Core.Path.{◌≡◌}
+use mathlib.Core.Path.{◌≡◌, sym, ◌∙◌}
 use mathlib.Core.Bool.{Bool, true, false, ◌&&◌}
 use mathlib.Core.List.{List, [], ◌∷◌}
 use Prim.Native.Nat.{ℕ, ◌*◌, ◌≤◌}
@@ -9,9 +9,10 @@ use lib.Dec.{leb, eqb}
 use lib.IntN.{ℤ, nat_abs}
 use borrow.Author.Tests.{leb-true, eqb-true, le-leb}
 use Rattle.weight.specs.Weight.{is_weight}
-use Rattle.laws.proofs.Tests.{both, by_cases}
-use Rattle.tally.specs.Tally.{graded, total, tally_fit, has_room, is_verdict, takes}
-use Rattle.tally.specs.Steps.{small_counts, Small, Bounded, none_is_zero}
+use Rattle.laws.proofs.Tests.{both, by_cases, never}
+use Rattle.verdict.specs.Verdict.{is_verdict}
+use Rattle.tally.specs.Tally.{graded, total, tally_fit, has_room, takes}
+use Rattle.tally.specs.Steps.{small_counts, Bounded, none_is_zero}
 use Rattle.tally.specs.declared.tally.Tally.{Tally}
 
 -- tests joined from the left, as `&&` and `&` join them
@@ -32,7 +33,6 @@ each b (c ∷ l) h =
     (f.0, (f.1, r.1))
 
 pub record FitTally (t : Tally) : Type 0 where
-  pub small : Small t
   pub verdicts : total t ≤ 999999
   pub grades : t.n ≡ graded t
   pub bounds : Bounded t
@@ -48,17 +48,6 @@ fit_tells t h =
     let v : total t ≤ 999999 = leb-true _ _ f.0 in
     let g : t.n ≡ graded t = eqb-true _ _ f.1.0 in
     record {
-      small = record {
-        lolo = omega arith;
-        lo = omega arith;
-        ok = omega arith;
-        hi = omega arith;
-        hihi = omega arith;
-        foreign = omega arith;
-        double = omega arith;
-        crash = omega arith;
-        n = omega arith;
-      };
       verdicts = v;
       grades = g;
       bounds = record { n = omega arith; sum = leb-true _ _ f.1.1.0; squares = leb-true _ _ f.1.1.1.0 };
@@ -66,27 +55,26 @@ fit_tells t h =
       smallest = leb-true _ _ f.1.1.1.1.1.0;
     }
 
--- a tally with a count that is not small is unfit
-pub large_unfit : (t : Tally) → small_counts t ≡ false → tally_fit t ≡ false
+-- a tally with a count that is not small, or with a large n, is unfit
+pub large_unfit : (t : Tally) → small_counts t.counts && leb t.n 999999 ≡ false → tally_fit t ≡ false
 large_unfit t h =
-    by_cases (tally_fit t) (λ y. absurd (not-small (fit_tells t y).small)) (λ n. n)
+    by_cases (tally_fit t) (λ y. never (sym h ∙ small (fit_tells t y))) (λ n. n)
   where
-    not-small : Small t → ⊥
-    not-small s =
-        let all : small_counts t ≡ true =
-        simp (
-          le-leb t.lolo 999999 s.lolo,
-          le-leb t.lo 999999 s.lo,
-          le-leb t.ok 999999 s.ok,
-          le-leb t.hi 999999 s.hi,
-          le-leb t.hihi 999999 s.hihi,
-          le-leb t.foreign 999999 s.foreign,
-          le-leb t.double 999999 s.double,
-          le-leb t.crash 999999 s.crash,
-          le-leb t.n 999999 s.n,
-        ) in
-        let z : ◌≡◌ {A = ℕ} 0 1 = cc in
-        omega arith
+    small : FitTally t → small_counts t.counts && leb t.n 999999 ≡ true
+    small f =
+        let c = t.counts in
+        let v = f.verdicts in
+        rw (
+          le-leb c.lolo 999999 (omega arith),
+          le-leb c.lo 999999 (omega arith),
+          le-leb c.ok 999999 (omega arith),
+          le-leb c.hi 999999 (omega arith),
+          le-leb c.hihi 999999 (omega arith),
+          le-leb c.foreign 999999 (omega arith),
+          le-leb c.double 999999 (omega arith),
+          le-leb c.crash 999999 (omega arith),
+          le-leb t.n 999999 f.bounds.n,
+        )
 
 -- a weight's square
 pub square_le : (m : ℕ) → m ≤ 999999 → m * m ≤ 999998000001

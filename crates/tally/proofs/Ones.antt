@@ -5,9 +5,10 @@ use Prim.Native.Nat.{ℕ, zero, suc, ◌+◌}
 use native.Mathlib.Omega.{arith}
 use lib.Dec.{T, leb}
 use borrow.Author.Tests.{leb-true, le-leb, lt-leb, ne_eqb}
-use Rattle.laws.specs.Choice.{when◌then◌else◌, within}
+use Rattle.laws.specs.Choice.{when◌then◌else◌}
 use Rattle.laws.proofs.Tests.{both}
-use Rattle.tally.specs.Tally.{one, is_verdict}
+use Rattle.verdict.specs.Verdict.{is_verdict, is_grade}
+use Rattle.tally.specs.Tally.{one}
 
 -- a verdict from 1 to 8 is one of the eight
 pub ones : (v : ℕ) → is_verdict v ≡ true → one v 1 + one v 2 + one v 3 + one v 4 + one v 5 + one v 6 + one v 7 + one v 8 ≡ 1
@@ -25,7 +26,7 @@ ones (suc (suc (suc (suc (suc (suc (suc (suc (suc k))))))))) h =
     absurd (omega (arith, leb-true v 8 (both (leb 1 v) (leb v 8) h).1))
 
 -- and a grade one of the first five
-pub grade_ones : (v : ℕ) → one v 1 + one v 2 + one v 3 + one v 4 + one v 5 ≡ (when within 1 5 v then 1 else 0)
+pub grade_ones : (v : ℕ) → one v 1 + one v 2 + one v 3 + one v 4 + one v 5 ≡ (when is_grade v then 1 else 0)
 grade_ones zero = refl
 grade_ones (suc zero) = refl
 grade_ones (suc (suc zero)) = refl

@@ -4,25 +4,14 @@ use Rattle.std.specs.Prelude.{◌*◌, ◌≤◌, Bool, true, ◌&&◌, leb, eqb
 use Rattle.laws.specs.Choice.{when◌then◌else◌}
 use Rattle.weight.specs.Weight.{largest_weight}
 use Rattle.tally.specs.Tally.{tally_limit, largest_square}
+use Rattle.tally.specs.declared.counts.Counts.{Counts}
 use Rattle.tally.specs.declared.tally.Tally.{Tally}
 
--- each count and n is small, as the code tests it
-abbrev pub small_counts : Tally → Bool
-small_counts t =
-    leb t.lolo tally_limit && leb t.lo tally_limit && leb t.ok tally_limit && leb t.hi tally_limit && leb t.hihi tally_limit
-    && leb t.foreign tally_limit && leb t.double tally_limit && leb t.crash tally_limit && leb t.n tally_limit
-
--- and as the steps ask for it
-pub record Small (t : Tally) : Type 0 where
-  pub lolo : t.lolo ≤ tally_limit
-  pub lo : t.lo ≤ tally_limit
-  pub ok : t.ok ≤ tally_limit
-  pub hi : t.hi ≤ tally_limit
-  pub hihi : t.hihi ≤ tally_limit
-  pub foreign : t.foreign ≤ tally_limit
-  pub double : t.double ≤ tally_limit
-  pub crash : t.crash ≤ tally_limit
-  pub n : t.n ≤ tally_limit
+-- each count is small
+abbrev pub small_counts : Counts → Bool
+small_counts c =
+    leb c.lolo tally_limit && leb c.lo tally_limit && leb c.ok tally_limit && leb c.hi tally_limit && leb c.hihi tally_limit
+    && leb c.foreign tally_limit && leb c.double tally_limit && leb c.crash tally_limit
 
 -- the sums are no larger than n weights make them
 pub record Bounded (t : Tally) : Type 0 where

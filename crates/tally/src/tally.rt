@@ -1,22 +1,16 @@
 // A code's tally: eight counts, and of the graded verdicts number, sum, sum of squares, largest and smallest.
 ghost use Rattle.std.specs.Prelude.{◌≡◌, true, ◌≤◌, nat_abs};
 ghost use Rattle.weight.specs.Weight.{largest_weight};
-ghost use Rattle.tally.specs.Steps.{small_counts, Small, Bounded, none_is_zero};
-ghost use Rattle.tally.specs.Tally.{empty_tally, tally_fit, counted_with, weighed_with, largest_with, smallest_with, added, takes, noted_of};
+ghost use Rattle.tally.specs.Steps.{Bounded, none_is_zero};
+ghost use Rattle.tally.specs.Tally.{empty_tally, tally_fit, weighed_with, largest_with, smallest_with, added, takes, noted_of};
 
+use crate::counts::Counts;
 use weight::{LARGEST, is_weight, size};
 
-// Counts are of verdicts, up to 999,999 together; sum, largest and smallest are in divisions, squares in divisions squared.
+// n is the number of graded verdicts; sum, largest and smallest are in divisions, squares in divisions squared.
 #[derive(Clone, Copy)]
 pub struct Tally {
-    pub lolo: u64,
-    pub lo: u64,
-    pub ok: u64,
-    pub hi: u64,
-    pub hihi: u64,
-    pub foreign: u64,
-    pub double: u64,
-    pub crash: u64,
+    pub counts: Counts,
     pub n: u64,
     pub sum: i64,
     pub squares: u64,
@@ -35,14 +29,7 @@ impl Tally {
         ensures { result ≡ empty_tally }
     {
         Tally {
-            lolo: 0,
-            lo: 0,
-            ok: 0,
-            hi: 0,
-            hihi: 0,
-            foreign: 0,
-            double: 0,
-            crash: 0,
+            counts: Counts::none(),
             n: 0,
             sum: 0,
             squares: 0,
@@ -55,11 +42,12 @@ impl Tally {
     pub fn fit(self) -> bool
         ensures { result ≡ tally_fit self }
     {
-        if !self.is_small() {
+        let counts = self.counts;
+        if !(counts.are_small() & (self.n <= Tally::LIMIT)) {
             return false;
         }
-        let graded = self.lolo + self.lo + self.ok + self.hi + self.hihi;
-        (graded + self.foreign + self.double + self.crash <= Tally::LIMIT)
+        let graded = counts.lolo + counts.lo + counts.ok + counts.hi + counts.hihi;
+        (graded + counts.foreign + counts.double + counts.crash <= Tally::LIMIT)
             & (self.n == graded)
             & (size(self.sum) <= self.n * LARGEST)
             & (self.squares <= self.n * Tally::LARGEST_SQUARE)
@@ -88,23 +76,8 @@ impl Tally {
             return false;
         }
         // n counts the graded ones
-        let total = self.n + self.foreign + self.double + self.crash;
-        ((1 <= verdict) & (verdict <= 8)) & is_weight(net) & (total < Tally::LIMIT)
-    }
-
-    // The counts and n are tested one by one, since a sum of any eight numbers may overflow.
-    fn is_small(self) -> bool
-        ensures { result ≡ small_counts self }
-    {
-        (self.lolo <= Tally::LIMIT)
-            & (self.lo <= Tally::LIMIT)
-            & (self.ok <= Tally::LIMIT)
-            & (self.hi <= Tally::LIMIT)
-            & (self.hihi <= Tally::LIMIT)
-            & (self.foreign <= Tally::LIMIT)
-            & (self.double <= Tally::LIMIT)
-            & (self.crash <= Tally::LIMIT)
-            & (self.n <= Tally::LIMIT)
+        let total = self.n + self.counts.foreign + self.counts.double + self.counts.crash;
+        verdict::is_verdict(verdict) & is_weight(net) & (total < Tally::LIMIT)
     }
 
     // With nothing graded, largest and smallest are 0.
@@ -115,30 +88,14 @@ impl Tally {
     }
 
     #[tactic(auto, unfolding(crate::specs::Tally::added))]
-    fn added(self, verdict: u64, net: i64) -> Tally
+    fn added(mut self, verdict: u64, net: i64) -> Tally
         requires { (tally_fit self ≡ true) × (nat_abs net ≤ largest_weight) }
         ensures { result ≡ added self verdict net }
     {
-        let counted = self.counted(verdict);
-        if (1 <= verdict) & (verdict <= 5) {
-            return counted.weighed(net);
+        self.counts = self.counts.with(verdict);
+        if verdict::is_grade(verdict) {
+            return self.weighed(net);
         }
-        counted
-    }
-
-    #[tactic(auto, unfolding(crate::specs::Tally::counted_with))]
-    fn counted(mut self, verdict: u64) -> Tally
-        requires { Small self }
-        ensures { result ≡ counted_with self verdict }
-    {
-        self.lolo += u64::from(verdict == 1);
-        self.lo += u64::from(verdict == 2);
-        self.ok += u64::from(verdict == 3);
-        self.hi += u64::from(verdict == 4);
-        self.hihi += u64::from(verdict == 5);
-        self.foreign += u64::from(verdict == 6);
-        self.double += u64::from(verdict == 7);
-        self.crash += u64::from(verdict == 8);
         self
     }
 

@@ -6,6 +6,7 @@ use Rattle.settings.specs.declared.Settings.{Settings}
 use Rattle.event.specs.declared.Setup.{Setup}
 use Rattle.event.specs.declared.SorterSetup.{SorterSetup}
 use Rattle.event.specs.declared.Sample.{Sample}
+use Rattle.event.specs.declared.Stored.{Stored}
 use Rattle.event.specs.declared.Event.{Event}
 use Rattle.event.specs.declared.Event.TheVariants as event
 use Rattle.numeral.specs.Number.{hold, unsigned_of}
@@ -40,18 +41,16 @@ setup_of v = record {
   tw = size_at v 3;
   ta = size_at v 4;
   tf = size_at v 5;
-  sorter1 = sorter_at v 6;
-  sorter2 = sorter_at v 9;
-  sorter3 = sorter_at v 12;
-  sorter4 = sorter_at v 15;
-  sorter5 = sorter_at v 18;
-  sorter6 = sorter_at v 21;
+  sorters = sorter_at v 6 ∷ sorter_at v 9 ∷ sorter_at v 12 ∷ sorter_at v 15 ∷ sorter_at v 18 ∷ sorter_at v 21 ∷ [];
   stop = size_at v 24;
   need = size_at v 25;
 }
 
 abbrev pub settings_of : List ℤ → Settings
 settings_of v = record { target = at v 1; lolo = at v 2; lo = at v 3; hi = at v 4; hihi = at v 5; nearzero = at v 6; tare = at v 7 }
+
+abbrev pub stored_of : List ℤ → Stored
+stored_of v = record { code = size_at v 0; settings = settings_of v }
 
 -- a form, and what the values of a line of that form say
 pub record Kind : Type 0 where
@@ -78,7 +77,7 @@ setup = record {
 abbrev pub store : Kind
 store = record {
   form = fields_form ("code" ∷ "target" ∷ "lolo" ∷ "lo" ∷ "hi" ∷ "hihi" ∷ "nearzero" ∷ "tare" ∷ []);
-  means = λ v. read.Event (event.Store (size_at v 0) (settings_of v));
+  means = λ v. read.Event (event.Store (stored_of v));
 }
 
 abbrev pub report : Kind

@@ -1,5 +1,5 @@
 // The values of a line by its form: in a form # is a number, $ four digits, and any other byte itself.
-ghost use Rattle.std.specs.Prelude.{◌≡◌, ◌≤◌, drop};
+ghost use Rattle.std.specs.Prelude.{◌≡◌, drop};
 ghost use Rattle.text.specs.Form.{line_values, value_count};
 ghost use Rattle.text.specs.Read.{held};
 ghost use Rattle.numeral.specs.Found.{found, held_head};

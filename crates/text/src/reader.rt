@@ -3,7 +3,7 @@ ghost use Rattle.std.specs.Prelude.{◌≡◌, [], ◌∷◌};
 ghost use Rattle.text.specs.Read.{sample, setup, store, report, coded_commands, commands, first_of, read_line};
 
 use crate::form::read_form;
-use crate::meaning::{sample_of, settings_of, setup_of};
+use crate::meaning::{sample_of, setup_of, stored_of};
 use crate::quick::quick_sample;
 use crate::{LONGEST_LINE, Read};
 use event::Event;
@@ -44,7 +44,7 @@ fn read_store(line: &[u8]) -> Option<Read>
         line,
         b"code=# target=# lolo=# lo=# hi=# hihi=# nearzero=# tare=#",
     )?;
-    Some(Read::Event(Event::Store(unsigned_of(v[0]), settings_of(&v))))
+    Some(Read::Event(Event::Store(stored_of(&v))))
 }
 
 fn read_report(line: &[u8]) -> Option<Read>

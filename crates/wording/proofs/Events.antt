@@ -47,9 +47,9 @@ runs : (ls : List (List ℕ)) (w : World) → Runs ls w
 runs [] w = rw (behind-none w.state, events-none, ran-none w) refl
 runs (l ∷ ls) w = rw (behind-one w.state l ls, events-one l ls) (line-runs w ls (read_line l) (runs ls))
 
-pub text-claim : TextClaim
+pub claim_stands : TextClaim
 unfolding run
-text-claim =
+claim_stands =
     record {
       held = λ input. runs (lines_of input) fresh_world;
       stands = λ input. claim (events_of (lines_of input));

@@ -266,8 +266,8 @@ text_of_values (four ∷ form) s vs h =
     let p = first-value four_head four_text text_of_four form s vs h (λ rest ws e. text_of_values form rest ws e) in
     rw p.first p.text
 
-pub one-text : OneText
-one-text = record {
+pub only_text : OneText
+only_text = record {
   taken = text_of_values;
   fields = λ keys vs h. values_of_text (fields_form keys) vs (fit-fields keys vs h);
   commands = λ word. rw append-nil at (values_of_text (word_items word ++ []) [] (fit_word word [] [] tt));

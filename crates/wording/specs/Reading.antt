@@ -1,9 +1,10 @@
 -- 01, "Text lines": its example lines, and lines that are none of them.
 use Prim.Native.String.{String}
-use Rattle.std.specs.Prelude.{◌≡◌, pos, negsuc, Option, Some, None}
+use Rattle.std.specs.Prelude.{◌≡◌, pos, negsuc, replicate, Option, Some, None}
 use Rattle.decimal.specs.Bytes.{bytes}
 use Rattle.text.specs.declared.Read.{Read}
 use Rattle.text.specs.declared.Read.TheVariants as read
+use Rattle.event.specs.Setup.{sorter_count}
 use Rattle.event.specs.declared.SorterSetup.{SorterSetup}
 use Rattle.event.specs.declared.Event.TheVariants as event
 use Rattle.numeral.specs.Number.{limit}
@@ -23,23 +24,21 @@ pub record Reading : Type 0 where
     tw = 0;
     ta = 2;
     tf = 0;
-    sorter1 = sorter;
-    sorter2 = sorter;
-    sorter3 = sorter;
-    sorter4 = sorter;
-    sorter5 = sorter;
-    sorter6 = sorter;
+    sorters = replicate sorter_count sorter;
     stop = 0;
     need = 0;
   })))
-  pub store : said "code=0 target=1000 lolo=900 lo=990 hi=1010 hihi=1100 nearzero=100 tare=0" ≡ Some (read.Event (event.Store 0 (record {
-    target = pos 1000;
-    lolo = pos 900;
-    lo = pos 990;
-    hi = pos 1010;
-    hihi = pos 1100;
-    nearzero = pos 100;
-    tare = pos 0;
+  pub store : said "code=0 target=1000 lolo=900 lo=990 hi=1010 hihi=1100 nearzero=100 tare=0" ≡ Some (read.Event (event.Store (record {
+    code = 0;
+    settings = record {
+      target = pos 1000;
+      lolo = pos 900;
+      lo = pos 990;
+      hi = pos 1010;
+      hihi = pos 1100;
+      nearzero = pos 100;
+      tare = pos 0;
+    };
   })))
   pub run : said "COPR" ≡ Some (read.Event event.Run)
   pub sample : said "sensor=1 emergency=0 safety=255 foreign=0 gross=500" ≡ Some (read.Event (event.Sample (record {

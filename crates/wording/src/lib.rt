@@ -11,6 +11,7 @@ ghost use Rattle.wording.specs.Tenths.{Tenths};
 ghost use Rattle.wording.specs.Claim.{TextClaim};
 
 // Each line that is taken has no other text.
+#[tactic(auto, using(crate::proofs::Inverse::only_text))]
 pub fn one_text()
     ensures { OneText }
 {}
@@ -26,12 +27,14 @@ pub fn lines_printed()
 {}
 
 // A spread's text, and that its digits without the point give its tenths back.
+#[tactic(auto, unfolding(decimal::specs::Number::decimal), using(crate::proofs::Tenths::read_back))]
 pub fn spreads_in_tenths()
     ensures { Tenths }
 {}
 
 // Behind every input the line and both memories are those that the events of its lines give, the claim holds of them, and
 // none of their boxes is left waiting.
+#[tactic(auto, using(crate::proofs::Events::claim_stands))]
 pub fn claim_of_text()
     ensures { TextClaim }
 {}

@@ -32,8 +32,8 @@ laws-hold =
     record {
       more = part-more;
       counts = counts_add;
-      stored = λ b c s. put-there c s.target (b.targets c);
-      store-leaves = λ _ _ _ _. refl;
+      stored = λ b s. put-there s.code s.settings.target (b.targets s.code);
+      store-leaves = λ _ _ _. refl;
       place = λ b h. lt-ltb (length (b.pages b.code)) 999999 (omega arith);
       no_place = λ b h. le-ltb (length (b.pages b.code)) 999999 h;
       undone = undone;

@@ -2,14 +2,11 @@
 use Rattle.pairing.proofs.Accepted.{accepted, few-verdicts, few-signals, given}
 use Rattle.pairing.proofs.pair_exits.Goals as goal
 
-pub fill-k-requires : goal.fill-k-requires
-fill-k-requires c = let h = accepted _ _ _ _ _ c.in_ok-accept.ensures in (h.ticks, h.window, h.narrow, h.wide)
-
 pub overflow_sub-result : goal.overflow_sub-result
-overflow_sub-result c = few-verdicts _ _ _ _ _ _ _ _ (accepted _ _ _ _ _ c.in_ok-accept.ensures) c.fill-k.ensures
+overflow_sub-result c = few-verdicts (accepted _ _ _ _ _ c.in_ok-accept.ensures) c.fill-k.ensures
 
 pub overflow_sub-result-2 : goal.overflow_sub-result-2
-overflow_sub-result-2 c = few-signals _ _ _ _ _ _ _ _ (accepted _ _ _ _ _ c.in_ok-accept.ensures) c.fill-k.ensures
+overflow_sub-result-2 c = few-signals (accepted _ _ _ _ _ c.in_ok-accept.ensures) c.fill-k.ensures
 
 pub returns : goal.returns
-returns c = let h = c.in_ok-accept.ensures in (h, given _ _ _ _ _ _ _ _ (accepted _ _ _ _ _ h) c.fill-k.ensures)
+returns c = let h = c.in_ok-accept.ensures in (h, given (accepted _ _ _ _ _ h) c.fill-k.ensures)

@@ -1,5 +1,5 @@
 -- What the loop keeps.
-use Rattle.possible.proofs.Machine.{Adding}
+use Rattle.possible.proofs.Adding.{Adding}
 use Rattle.possible.proofs.sum_at.Given as goal
 
 abbrev pub invariant-loop-x : goal.invariant-loop-x

@@ -1,30 +1,23 @@
 -- `all_ticked` ticks the six, each with what it is set to. Assumes nothing.
 use borrow.Author.Rules.{rules}
 use mathlib.Core.List.{List, [], ◌∷◌}
-use mathlib.Core.Path.{◌≡◌, refl}
-use native.Mathlib.Omega.{arith}
+use mathlib.Core.Path.{◌≡◌, ap₂}
 use lib.ListN.{length, get_or}
 use Rattle.lists.specs.Each.{each_pair}
+use Rattle.lists.proofs.Counts.{tab-is}
 use Rattle.device.specs.declared.sorter.Sorter.{Sorter}
-use Rattle.event.specs.Setup.{sorter_count, sorter_setups}
-use Rattle.event.specs.declared.Setup.{Setup}
+use Rattle.event.specs.Setup.{sorter_count}
+use Rattle.event.specs.declared.SorterSetup.{SorterSetup}
 use Rattle.sorters.specs.Sorters.{ticked_as, all_ticked}
 use Rattle.sorters.proofs.all_ticked.Goals as goal
 
 -- the six places, one by one
-six : (l : List Sorter) (c : Setup) (d : Sorter) → length l ≡ sorter_count
-    → ticked_as (get_or l 0 d) c.sorter1 ∷ ticked_as (get_or l 1 d) c.sorter2 ∷ ticked_as (get_or l 2 d) c.sorter3
-    ∷ ticked_as (get_or l 3 d) c.sorter4 ∷ ticked_as (get_or l 4 d) c.sorter5 ∷ ticked_as (get_or l 5 d) c.sorter6 ∷ []
-    ≡ each_pair ticked_as l (sorter_setups c)
+six : (ss : List Sorter) (cs : List SorterSetup) (s : Sorter) (c : SorterSetup) → length ss ≡ sorter_count → length cs ≡ sorter_count
+    → ticked_as (get_or ss 0 s) (get_or cs 0 c) ∷ ticked_as (get_or ss 1 s) (get_or cs 1 c) ∷ ticked_as (get_or ss 2 s) (get_or cs 2 c)
+    ∷ ticked_as (get_or ss 3 s) (get_or cs 3 c) ∷ ticked_as (get_or ss 4 s) (get_or cs 4 c) ∷ ticked_as (get_or ss 5 s) (get_or cs 5 c) ∷ []
+    ≡ each_pair ticked_as ss cs
 unfolding each_pair
-six [] c d h = absurd (omega (arith, h))
-six (s₁ ∷ []) c d h = absurd (omega (arith, h))
-six (s₁ ∷ s₂ ∷ []) c d h = absurd (omega (arith, h))
-six (s₁ ∷ s₂ ∷ s₃ ∷ []) c d h = absurd (omega (arith, h))
-six (s₁ ∷ s₂ ∷ s₃ ∷ s₄ ∷ []) c d h = absurd (omega (arith, h))
-six (s₁ ∷ s₂ ∷ s₃ ∷ s₄ ∷ s₅ ∷ []) c d h = absurd (omega (arith, h))
-six (s₁ ∷ s₂ ∷ s₃ ∷ s₄ ∷ s₅ ∷ s₆ ∷ []) c d h = refl
-six (s₁ ∷ s₂ ∷ s₃ ∷ s₄ ∷ s₅ ∷ s₆ ∷ s₇ ∷ l) c d h = absurd (omega (arith, h))
+six ss cs s c h k = ap₂ (each_pair ticked_as) (tab-is sorter_count ss s h) (tab-is sorter_count cs c k)
 
 pub returns : goal.returns
 unfolding all_ticked
@@ -37,4 +30,4 @@ returns c =
       c.ticked_as-four.ensures,
       c.ticked_as-five.ensures,
       c.ticked_as-six.ensures,
-    ) (six a.sorters a.setup _ (search rules))
+    ) (six a.sorters a.setup.sorters _ _ (search rules) (search rules))

@@ -1,6 +1,6 @@
 -- `on_bits`: the bits of the sorters so far, the first of them highest. Assumes nothing.
 use borrow.Author.Rules.{rules}
-use mathlib.Core.Path.{◌≡◌, refl, ◌∙◌}
+use mathlib.Core.Path.{◌≡◌, refl}
 use mathlib.Core.Bool.{Bool, true, false}
 use mathlib.Core.List.{List, [], ◌∷◌, ◌++◌, map, reverse, map-append}
 use Prim.Native.Nat.{ℕ, ◌+◌, ◌*◌, ◌<◌, ◌≤◌}
@@ -8,9 +8,9 @@ use native.Mathlib.Omega.{arith}
 use lib.Dec.{ltb}
 use lib.ListN.{length, length-map}
 use mir.Val.{bool_byte}
-use Rattle.std.proofs.lemmas.List.{reverse-append, length-reverse, reverse-reverse}
+use Rattle.std.proofs.lemmas.List.{reverse-append, length-reverse}
 use Rattle.std.proofs.lemmas.Iterator.Adapters.{YieldsList-from_rev_slice}
-use Rattle.std.proofs.lemmas.Iterator.Consumers.{YieldsList-turn, YieldsList-end}
+use Rattle.std.proofs.lemmas.Iterator.Consumers.{YieldsList-turn}
 use Rattle.laws.specs.Choice.{bit}
 use Rattle.device.specs.declared.sorter.Sorter.{Sorter}
 use Rattle.event.specs.Setup.{sorter_count}
@@ -60,9 +60,3 @@ pub loop-sorter-preserved : goal.loop-sorter-preserved
 loop-sorter-preserved c =
     let l = c.loop-sorter in
     rw map-append (next (map (λ s. s.now) l.yielded) c.in-Some.sorter.now c.from.result l.bits c.from.ensures l.invariant)
-
-pub returns : goal.returns
-returns c =
-    let l = c.loop-sorter in
-    let t = YieldsList-end (YieldsList-from_rev_slice c.args.sorters (cc)) l.yielded _ l.yielded_by _ _ c.in-None.is c.next.ensures.steps in
-    l.invariant ∙ rw (t.0, reverse-reverse)

@@ -16,7 +16,7 @@ use Rattle.tallies.proofs.sum_of.Goals as goal
 
 -- a number that was tested is its size, which is small
 size_is : (p : List ℤ) (i n : ℕ) → i < length p → all_of small_count p ≡ true → n ≡ nat_abs (to_z w64 (of_z w64 (get_or p i (pos 0))))
-    → (n ≡ nat_abs (get_or p i (pos 0))) × (n ≤ 1048575)
+    → (n ≡ nat_abs (get_or p i (pos 0))) × (n ≤ 999999)
 size_is p i n h s e =
     let x = get_or p i (pos 0) in
     let m = small_is x (small_at p i h s) in

@@ -11,7 +11,16 @@ use Rattle.checkweigher.proofs.input.serve_input.Given as goal
 
 abbrev pub invariant-loop : goal.invariant-loop
 invariant-loop g l =
-    (length l.input ≡ 65536) × (length l.out ≡ 65536) × (length l.tallies ≡ 3400) × (l.left.start ≤ l.left.end) × (l.left.end ≤ 65536) × (l.counter ≤ 2 ^ 64 - 1)
-    × Traced (streams (g.R.Read.remaining l.fn.reader) (g.W.Write.contents l.fn.writer)) (streams (g.R.Read.remaining l.reader) (g.W.Write.contents l.writer))
-    (state l.line l.settings l.tallies) (bytes_left l.left l.input) (last_of l.left) l.counter
-    × (EndSeen l.left → IsAtEnd (g.R.Read.remaining l.reader))
+    record {
+      input : length l.input ≡ 65536;
+      out : length l.out ≡ 65536;
+      tallies : length l.tallies ≡ 3400;
+      settings : length l.settings ≡ 100;
+      order : l.left.start ≤ l.left.end;
+      within : l.left.end ≤ 65536;
+      turns : l.counter ≤ 2 ^ 64 - 1;
+      traced :
+          Traced (streams (g.R.Read.remaining l.fn.reader) (g.W.Write.contents l.fn.writer)) (streams (g.R.Read.remaining l.reader) (g.W.Write.contents l.writer))
+          (state l.line l.settings l.tallies) (bytes_left l.left l.input) (last_of l.left) l.counter;
+      ended : EndSeen l.left → IsAtEnd (g.R.Read.remaining l.reader);
+    }

@@ -1,27 +1,23 @@
 -- `put_pairs` writes pair by pair. Assumes nothing.
 use borrow.Author.Rules.{rules}
-use Rattle.exitlog.proofs.Writing.{going_start, going_on, same_size, room-left, going_ends}
+use native.Mathlib.Omega.{arith}
+use Rattle.exitlog.proofs.Writing.{going_start, going_on, room-left, going_ends}
 use Rattle.exitlog.proofs.lines.put_pairs.Goals as goal
 
 pub loop-i-init : goal.loop-i-init
-loop-i-init c = let a = c.args in going_start a.out.now a.pairs.now a.n
+loop-i-init c = let room = c.requires in going_start c.args.lines.now c.args.pairs.now (omega (arith, room))
 
-pub put_pair-at-requires : goal.put_pair-at-requires
-put_pair-at-requires c =
+pub put_pair-requires : goal.put_pair-requires
+put_pair-requires c =
     let l = c.loop-i in
-    room-left c.args.out.now c.args.pairs.now c.args.n l.out l.at l.i l.invariant (search rules) c.requires.2
+    room-left c.args.lines.now c.args.pairs.now l.lines l.i l.invariant (search rules) c.requires
 
 pub loop-i-preserved : goal.loop-i-preserved
 loop-i-preserved c =
     let l = c.loop-i in
-    going_on c.args.out.now c.args.pairs.now c.args.n l.out l.at l.i l.invariant (search rules) c.requires.0 _ _ c.put_pair-at.ensures
-
-pub shape_of-out : goal.shape_of-out
-shape_of-out c =
-    let l = c.loop-i in
-    same_size c.args.out.now c.args.pairs.now c.args.n l.out l.at l.i l.invariant
+    going_on c.args.lines.now c.args.pairs.now l.lines l.i l.invariant (search rules) _ c.put_pair.ensures
 
 pub returns : goal.returns
 returns c =
     let l = c.loop-i in
-    going_ends c.args.out.now c.args.pairs.now c.args.n l.out l.at l.i l.invariant c.loop-i-test.false
+    going_ends c.args.lines.now c.args.pairs.now l.lines l.i l.invariant c.loop-i-test.false

@@ -18,8 +18,8 @@ returns-then-out-lt-CALL_ROOM c =
 pub returns : goal.returns
 returns c =
     let a = c.args in
-    let w = c.reply_line in
+    let w = c.refuse in
     let room = c.if-out-lt-CALL_ROOM.false in
     let own : leb reply_room (length a.out.now) ≡ true = le-leb reply_room (length a.out.now) (omega (arith, room)) in
     let call : leb call_room (length a.out.now) ≡ true = le-leb call_room (length a.out.now) room in
-    rw call ((rw own at w.ensures.value), (rw own at w.ensures.out_after))
+    rw call ((rw own at w.ensures.0), (rw own at w.ensures.1))

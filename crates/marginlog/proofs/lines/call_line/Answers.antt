@@ -21,7 +21,7 @@ pub returns-then-count_fits-is_code : goal.returns-then-count_fits-is_code
 returns-then-count_fits-is_code c =
     let a = c.args in
     let refused = code-refused a.samples.now a.e a.code a.s (tested a.samples.now a.code c.count_fits.ensures c.is_code.ensures c.if-count_fits-is_code.true) in
-    refused-line a.samples.now a.e a.code a.s Value refused _ _ _ (rw c.number.ensures at c.put_refused.ensures)
+    refused-line a.samples.now a.e a.code a.s Value refused _ _ _ (rw c.number.ensures at c.refuse.ensures)
 
 -- no code is refused: the refusal is the call's
 own : {t u : Bool} (xs : List ℤ) (e code : ℕ) (s : Settings) → t ≡ count_fits (length xs) → u ≡ is_code code → t && not u ≡ false
@@ -32,7 +32,7 @@ pub returns-in-Err : goal.returns-in-Err
 returns-in-Err c =
     let a = c.args in
     let r = rw c.in-Err.is at c.possible_outcomes.ensures in
-    refused-line a.samples.now a.e a.code a.s _ (own a.samples.now a.e a.code a.s c.count_fits.ensures c.is_code.ensures c.if-count_fits-is_code.false ∙ r) _ _ _ (rw c.number-in-Err.ensures at c.put_refused-in-Err.ensures)
+    refused-line a.samples.now a.e a.code a.s _ (own a.samples.now a.e a.code a.s c.count_fits.ensures c.is_code.ensures c.if-count_fits-is_code.false ∙ r) _ _ _ (rw c.number-in-Err.ensures at c.refuse-in-Err.ensures)
 
 pub returns-in-Ok : goal.returns-in-Ok
 returns-in-Ok c =

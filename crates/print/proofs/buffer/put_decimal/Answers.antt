@@ -1,6 +1,6 @@
 -- `put_decimal`: before each pass, the digits of m put in front of what stands there are the whole number. Assumes nothing.
 use Prim.Native.Nat.{◌+◌, ◌-◌, ◌/◌, ◌%◌, ◌<◌}
-use mathlib.Core.Path.{◌≡◌, refl, sym, ap, ◌∙◌}
+use mathlib.Core.Path.{◌≡◌, sym, ap, ◌∙◌}
 use native.Mathlib.Omega.{arith}
 use lib.ListN.{length, length-set}
 use Rattle.decimal.specs.Number.{decimal}
@@ -8,15 +8,6 @@ use Rattle.print.specs.Steps.{with_text_at}
 use Rattle.print.proofs.Put.{put_one, put_last}
 use Rattle.decimal.proofs.Digits.{decimal_digit, decimal-more, length_digit, length_more}
 use Rattle.print.proofs.buffer.put_decimal.Goals as goal
-
-pub loop-m-init : goal.loop-m-init
-loop-m-init c = (omega arith, omega arith, refl, refl)
-
-pub overflow_sub-place : goal.overflow_sub-place
-overflow_sub-place c = let l = length_more c.loop-m.m c.loop-m-test.true in omega arith
-
-pub bounds-out-place : goal.bounds-out-place
-bounds-out-place c = let l = length_more c.loop-m.m c.loop-m-test.true in omega arith
 
 pub loop-m-preserved : goal.loop-m-preserved
 loop-m-preserved c =
@@ -31,14 +22,6 @@ loop-m-preserved c =
       length-set l.out (l.place - 1) c.digit.result ∙ l.invariant.2,
       rw (e, c.digit.ensures) (put_last l.out at (decimal (l.m / 10)) (48 + l.m % 10) room ∙ ap (with_text_at l.out at) (sym more) ∙ l.invariant.3),
     )
-
-pub bounds-out-at : goal.bounds-out-at
-bounds-out-at c = let l = length_digit c.loop-m.m c.loop-m-test.false in omega arith
-
-pub shape_of-out : goal.shape_of-out
-shape_of-out c =
-    let l = c.loop-m in
-    length-set l.out c.args.at c.digit-2.result ∙ l.invariant.2
 
 pub returns : goal.returns
 returns c =

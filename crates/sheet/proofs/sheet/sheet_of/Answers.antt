@@ -10,11 +10,11 @@ use Rattle.sheet.proofs.Facts.{mean_within, deviation_is}
 use Rattle.sheet.proofs.sheet.sheet_of.Goals as goal
 
 pub total_of-total-requires : goal.total_of-total-requires
-total_of-total-requires c = (fit-facts c.args.t c.requires.0).tally.verdicts
+total_of-total-requires c = (fit-facts c.args.p.tally c.requires.0).tally.verdicts
 
 pub deviation_of-requires : goal.deviation_of-requires
 deviation_of-requires c =
-    let t = c.args.t in
+    let t = c.args.p.tally in
     -- the mean is that of the sum
     let m : c.mean_of-mean.result ≡ mean_of t.sum t.n = rw (back t.sum (search rules)) at c.mean_of-mean.ensures in
     (rw m (mean_within t c.requires.0), rw (to_z-of_z c.ranges.target) c.requires.1)
@@ -22,10 +22,9 @@ deviation_of-requires c =
 pub returns : goal.returns
 unfolding sheet_of
 returns c =
-    let t = c.args.t in
+    let t = c.args.p.tally in
     let m : c.mean_of-mean.result ≡ mean_of t.sum t.n = rw (back t.sum (search rules)) at c.mean_of-mean.ensures in
     rw (
-      c.listed.ensures,
       c.sdp.ensures,
       c.sd.ensures,
       c.deviation_of.ensures,

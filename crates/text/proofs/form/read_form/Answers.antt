@@ -3,7 +3,7 @@ use borrow.Author.Rules.{rules}
 use mathlib.Core.Path.{sym, ◌∙◌}
 use Rattle.laws.proofs.Signed.{back}
 use Rattle.numeral.proofs.Heads.{byte-here}
-use Rattle.text.proofs.Filling.{byte-found, value_found, ended, more-text}
+use Rattle.text.proofs.Filling.{byte-found, value_found, more-text}
 use Rattle.text.proofs.form.read_form.Goals.{then-is_literal+else-not-byte_at, else-is_literal+in_ok-found}
 use Rattle.text.proofs.form.read_form.Goals as goal
 
@@ -21,6 +21,3 @@ loop-item-preserved g c =
 
 pub returns-then-at-line : goal.returns-then-at-line
 returns-then-at-line g c = more-text c.loop-item.invariant c.loop-item-test.false c.if-at-line.true
-
-pub returns : goal.returns
-returns g c = ended c.loop-item.invariant c.loop-item-test.false c.if-at-line.false

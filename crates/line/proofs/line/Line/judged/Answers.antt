@@ -24,11 +24,14 @@ sizes a m r w =
     omega (arith, leb-true (nat_abs m) 999999 w, leb-true (nat_abs a.tare) 999999 t.1)
 
 pub overflow_sub-net : goal.overflow_sub-net
-overflow_sub-net c = sub_fits c.args.m c.args.active.tare c.ranges.m (record { sfits = c.struct_told-2-1.given.1.1.1.1.1.1.0.1 }) (sizes c.args.active c.args.m c.requires.0 c.requires.1)
+overflow_sub-net c =
+    let tare : SFits w64 c.args.active.tare = assumption in
+    sub_fits c.args.m c.args.active.tare c.ranges.m tare (sizes c.args.active c.args.m c.requires.0 c.requires.1)
 
 pub returns : goal.returns
 unfolding judged
 returns c =
-    let n : SFits w64 c.args.active.nearzero = record { sfits = c.struct_told-1.given.1.1.1.1.1.0.1 } in
-    let net = sub_back c.args.m c.args.active.tare c.ranges.m (record { sfits = c.struct_told-2-1.given.1.1.1.1.1.1.0.1 }) (sizes c.args.active c.args.m c.requires.0 c.requires.1) in
-    simp (rw net at c.verdict_of.ensures, le_was c.ranges.m n c.if-m-active.false)
+    let nearzero : SFits w64 c.args.active.nearzero = assumption in
+    let tare : SFits w64 c.args.active.tare = assumption in
+    let net = sub_back c.args.m c.args.active.tare c.ranges.m tare (sizes c.args.active c.args.m c.requires.0 c.requires.1) in
+    simp (rw net at c.verdict_of.ensures, le_was c.ranges.m nearzero c.if-m-active.false)

@@ -1,6 +1,0 @@
--- `begin` has blank settings. Assumes nothing.
-use mathlib.Core.Path.{refl}
-use Rattle.margin.proofs.session.Call.begin.Goals as goal
-
-pub returns : goal.returns
-returns c = rw c.blank.ensures refl
