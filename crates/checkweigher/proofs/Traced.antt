@@ -27,7 +27,7 @@ use Rattle.std.specs.Prelude.{Option}
 use Rattle.std.specs.Io.KnownBytes.{Consumes, Appends, IsAtEnd}
 use Rattle.controller.specs.Answer.{no_room}
 use Rattle.controller.specs.Input.{printed, program}
-use Rattle.sessions.specs.Sessions.{Says, AnsweredUpTo}
+use Rattle.sessions.proofs.Answered.{Says, AnsweredUpTo}
 use Rattle.checkweigher.specs.Traces.{written_in, Traced, Whole, Begun, CutShort}
 use Rattle.checkweigher.proofs.Prints.{prints-none, prints-kept, prints-closed, kept_no_lf, ended-closed}
 
@@ -184,15 +184,15 @@ below a b h n =
 -- ---- a turn: a block is served, and its answers written
 module _ (before now : Streams) (input out : List ℕ) (left : Left) (s p : State) (turns k at : ℕ) (order : left.start ≤ left.end) (within : left.end ≤ length input)
     (t : Traced before now s (bytes_left left input) (last_of left) turns)
-    (a : AnsweredUpTo s (take (left.end - left.start) (drop left.start input)) (take (left.end - left.start) (drop left.start input)) out p k at) where
+    (a : AnsweredUpTo s (take (left.end - left.start) (drop left.start input)) out p k at) where
   abbrev part : bytes_left left input ≡ take (left.end - left.start) (drop left.start input)
   part = part-is input left.start left.end order within
 
   says : Says s (bytes_left left input) p (drop k (bytes_left left input)) (take at out)
-  says = rw part a.says
+  says = rw part a.said.says
 
   stays : left.start + k ≤ left.end
-  stays = place-within input left.start left.end k order within a.place
+  stays = place-within input left.start left.end k order within a.said.place
 
   pub turn-cut : (taken : Taken) → TakenOf (length (take at out)) taken → eqb taken.taken taken.of ≡ false
       → (holds : Option (List ℕ)) → Appends now.holds holds (take taken.taken (take at out)) → CutShort before (streams now.left holds) taken

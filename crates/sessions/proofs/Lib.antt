@@ -1,2 +1,4 @@
 pub mod Prints
+pub mod Complete
 pub mod Goes
+pub mod Answered

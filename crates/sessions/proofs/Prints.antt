@@ -16,7 +16,7 @@ use Rattle.blocks.specs.Lines.{line_length}
 use Rattle.blocks.proofs.Ends.{at-lf, before-lf, no_more}
 
 -- a line up to its LF, where some bytes of it stand before
-whole-line : (before bs more : List ℕ) → line_length bs < length bs → lines_from before (bs ++ more) ≡ (before ++ take (line_length bs) bs) ∷ lines_of (drop (line_length bs + 1) bs ++ more)
+pub whole-line : (before bs more : List ℕ) → line_length bs < length bs → lines_from before (bs ++ more) ≡ (before ++ take (line_length bs) bs) ∷ lines_of (drop (line_length bs + 1) bs ++ more)
 whole-line before [] more h = absurd (omega (arith, h, no_more))
 whole-line before (b ∷ s) more h =
     by_cases (eqb b lf)

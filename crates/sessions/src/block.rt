@@ -1,6 +1,7 @@
 // The lines of a block of input, each answered in its turn.
+ghost use Rattle.std.specs.Prelude.{◌≡◌};
 ghost use Rattle.line.specs.State.{state};
-ghost use Rattle.sessions.specs.Sessions.{AnsweredUpTo};
+ghost use Rattle.sessions.specs.Sessions.{answering};
 
 use blocks::line_end;
 use controller::serve;
@@ -25,7 +26,11 @@ pub fn serve_block(
     input: &[u8],
     out: &mut [u8],
 ) -> Block
-    ensures { AnsweredUpTo (state line.old records.old tallies.old) input.now input.now out.new (state line.new records.new tallies.new) result.start result.at }
+    ensures answer { result ≡ (answering (state line.old records.old tallies.old) input.now out.old).block }
+    ensures line { line.new ≡ (answering (state line.old records.old tallies.old) input.now out.old).state.line }
+    ensures settings { records.new ≡ (answering (state line.old records.old tallies.old) input.now out.old).state.settings }
+    ensures memory { tallies.new ≡ (answering (state line.old records.old tallies.old) input.now out.old).state.tallies }
+    ensures output { out.new ≡ (answering (state line.old records.old tallies.old) input.now out.old).out }
 {
     let mut start = 0;
     let mut at = 0;

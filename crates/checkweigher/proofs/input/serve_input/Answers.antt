@@ -2,12 +2,15 @@
 use mathlib.Core.Path.{◌≡◌, refl, sym, subst, ◌∙◌}
 use mathlib.Core.Bool.{true, false}
 use native.Mathlib.Omega.{arith}
-use lib.ListN.{length}
+use Prim.Native.Nat.{◌-◌}
+use lib.ListN.{length, take, drop}
+use lib.Seq.{length-take-le}
 use Rattle.line.specs.State.{state}
 use Rattle.tallies.specs.Memory.{zeros}
 use Rattle.controller.specs.Answer.{no_room}
 use Rattle.blocks.specs.Left.{last_of, bytes_left}
 use Rattle.blocks.specs.declared.left.Left.{Left}
+use Rattle.sessions.proofs.Answered.{as_answered, ends_within}
 use Rattle.checkweigher.proofs.Traced.{traced_fresh, traced_begun, turn-cut, turn-stays, turn-ends, turn-reads}
 use Rattle.checkweigher.proofs.input.serve_input.Goals as goal
 
@@ -26,6 +29,19 @@ loop-init g c =
       ended = λ e. cc;
     })
 
+pub slice_bounds-out-end : goal.slice_bounds-out-end
+slice_bounds-out-end g c =
+    let l = c.loop in
+    let b = c.serve_block-block in
+    ends_within (state l.line l.settings l.tallies) (take (l.left.end - l.left.start) (drop l.left.start l.input)) l.out b.new.out b.result b.ensures.answer b.ensures.output
+
+pub slice_bounds-write_out-end : goal.slice_bounds-write_out-end
+slice_bounds-write_out-end g c =
+    let l = c.loop in
+    let b = c.serve_block-block in
+    sym (length-take-le b.result.at b.new.out
+    (ends_within (state l.line l.settings l.tallies) (take (l.left.end - l.left.start) (drop l.left.start l.input)) l.out b.new.out b.result b.ensures.answer b.ensures.output))
+
 pub returns-then-not-all : goal.returns-then-not-all
 returns-then-not-all g c =
     let l = c.loop in
@@ -33,7 +49,8 @@ returns-then-not-all g c =
     let w = c.write_out-taken in
     let n = l.invariant.input in
     turn-cut _ _ l.input b.new.out l.left (state l.line l.settings l.tallies) (state b.new.line b.new.records b.new.tallies) l.counter b.result.start b.result.at
-    l.invariant.order (omega (arith, n, l.invariant.within)) l.invariant.traced b.ensures w.result w.ensures.taken (sym c.all.ensures ∙ c.if-not-all.true) _ w.ensures.written
+    l.invariant.order (omega (arith, n, l.invariant.within)) l.invariant.traced
+    (as_answered _ _ l.out b.result _ _ _ _ b.ensures.answer b.ensures.line b.ensures.settings b.ensures.memory b.ensures.output) w.result w.ensures.taken (sym c.all.ensures ∙ c.if-not-all.true) _ w.ensures.written
 
 pub loop-preserved-then-no_room : goal.loop-preserved-then-no_room
 loop-preserved-then-no_room g c =
@@ -44,7 +61,8 @@ loop-preserved-then-no_room g c =
     let t = c.loop-test.true in
     let on =
     turn-stays _ _ l.input b.new.out l.left (state l.line l.settings l.tallies) (state b.new.line b.new.records b.new.tallies) l.counter b.result.start b.result.at
-    l.invariant.order (omega (arith, n, l.invariant.within)) l.invariant.traced b.ensures w.result w.ensures.taken (sym c.all.ensures ∙ c.if-not-all.false) _ w.ensures.written in
+    l.invariant.order (omega (arith, n, l.invariant.within)) l.invariant.traced
+    (as_answered _ _ l.out b.result _ _ _ _ b.ensures.answer b.ensures.line b.ensures.settings b.ensures.memory b.ensures.output) w.result w.ensures.taken (sym c.all.ensures ∙ c.if-not-all.false) _ w.ensures.written in
     rw c.past-left.ensures (record {
       input = n;
       out = b.auto.out ∙ l.invariant.out;
@@ -69,7 +87,8 @@ returns-then-is_last g c =
       last,
       l.invariant.ended,
       turn-ends _ _ l.input b.new.out l.left (state l.line l.settings l.tallies) (state b.new.line b.new.records b.new.tallies) l.counter b.result.start b.result.at
-          l.invariant.order (omega (arith, n, l.invariant.within)) l.invariant.traced b.ensures w.result w.ensures.taken (sym c.all.ensures ∙ c.if-not-all.false) _ w.ensures.written
+          l.invariant.order (omega (arith, n, l.invariant.within)) l.invariant.traced
+          (as_answered _ _ l.out b.result _ _ _ _ b.ensures.answer b.ensures.line b.ensures.settings b.ensures.memory b.ensures.output) w.result w.ensures.taken (sym c.all.ensures ∙ c.if-not-all.false) _ w.ensures.written
           roomy last,
     )
 
@@ -86,7 +105,8 @@ loop-preserved g c =
     let refilled = rw c.past-left.ensures at r.ensures in
     let on =
     turn-reads _ _ l.input b.new.out l.left (state l.line l.settings l.tallies) (state b.new.line b.new.records b.new.tallies) l.counter b.result.start b.result.at
-    l.invariant.order (omega (arith, n, l.invariant.within)) l.invariant.traced b.ensures w.result w.ensures.taken (sym c.all.ensures ∙ c.if-not-all.false) _ w.ensures.written
+    l.invariant.order (omega (arith, n, l.invariant.within)) l.invariant.traced
+    (as_answered _ _ l.out b.result _ _ _ _ b.ensures.answer b.ensures.line b.ensures.settings b.ensures.memory b.ensures.output) w.result w.ensures.taken (sym c.all.ensures ∙ c.if-not-all.false) _ w.ensures.written
     roomy more (omega (arith, n)) r.result r.new.input refilled.refilled _ (refilled.drawn (omega (arith, n))) in
     let same = refilled.refilled.same_length in
     let m = on.1 in
