@@ -5,14 +5,14 @@ use mathlib.Core.Bool.{Bool, true, false, ◌&&◌, not}
 use mathlib.Core.List.{List, [], ◌∷◌, ◌++◌}
 use Prim.Native.Nat.{ℕ, zero, suc, ◌+◌, ◌-◌, ◌≤◌, ◌<◌, min}
 use native.Mathlib.Omega.{arith}
-use lib.Dec.{leb, ltb, eqb}
+use lib.Dec.{ltb, eqb}
 use lib.IntN.{ℤ, pos, negsuc}
 use lib.Signed.{le_z, lt_z}
 use Rattle.std.specs.Int.{int_max, int_min}
 use lib.ListN.{length, get_or, take, drop, replicate, length-take}
 use Rattle.std.proofs.lemmas.List.{drop-replicate}
 use lib.Seq.{take-append_seam, take-take, take_all, length-take-le}
-use borrow.Author.Tests.{le-leb, lt-leb, ltb-true, ltb-false, not-true}
+use borrow.Author.Tests.{lt-leb, ltb-true, ltb-false, not-true, tests}
 use Rattle.laws.specs.Choice.{when◌then◌else◌}
 use Rattle.laws.proofs.Tests.{both, and_intro, by_cases, if_ind, never}
 use Rattle.weight.specs.Weight.{is_weight}
@@ -74,18 +74,16 @@ smallest-first (x ∷ l) h = refl
 
 -- ---- what stays fit
 
-laid-few : (armed : ℕ) (l : List ℤ) → length l ≤ last_ticks → leb (keeping armed l).n last_ticks ≡ true
-unfolding keeping
-laid-few armed l n = le-leb (length l) last_ticks n
-
 pub fit-weights : (b : Bench) → bench_fit b ≡ true → all_of is_weight (grosses_of b) ≡ true
 unfolding bench_fit
-fit-weights b h = (both (leb b.n last_ticks) (all_of is_weight (grosses_of b)) h).1
+fit-weights b h = (both _ _ h).1
 
 -- at most ten weights
 laid-fit : (armed : ℕ) (l : List ℤ) → length l ≤ last_ticks → all_of is_weight l ≡ true → bench_fit (keeping armed l) ≡ true
-unfolding bench_fit
-laid-fit armed l n w = and_intro (laid-few armed l n) (rw (grosses_laid armed l) w)
+unfolding bench_fit keeping
+laid-fit armed l n w =
+    let all : all_of is_weight (grosses_of (keeping armed l)) ≡ true = rw (grosses_laid armed l) w in
+    grind (arith, tests, n, all)
 
 armed_fit : (b : Bench) (armed : ℕ) → bench_fit b ≡ true → bench_fit (with_armed b armed) ≡ true
 unfolding bench_fit grosses_of

@@ -3,10 +3,10 @@ use crate::left::Left;
 use crate::output::Taken;
 
 // No more input comes, and the `Left` says whether it has ended or a read failed; `write` did not take all that was due; or
-// the turns are used up, as many as a `u64` can count.
+// the turns are used up, so many.
 #[derive(Clone, Copy)]
 pub enum Ended {
     Input(Left),
     Output(Taken),
-    Turns,
+    Turns(u64),
 }

@@ -266,7 +266,7 @@ module _ (prog : Service) (cut : (t : List ℕ) → prog.reads (take kept_bytes 
         turn-finished over done holds (Input l) f =
             (ap last_of f.0 ∙ over, λ e. done (sym (ap (λ (x : Left). x.over) f.0) ∙ e), turn-ends over f.1.0 f.1.1 holds f.1.2)
         turn-finished over done holds (Output taken) f = (f.0, end-due over f.0.due f.1 holds taken.taken f.2)
-        turn-finished over done holds Turns f = absurd f
+        turn-finished over done holds (Turns turns) f = absurd f
 
         pub turn-reads : last_of left ≡ false → kept_bytes < length input → (r : Left) (after : List ℕ) → Refilled left input r after
             → (reads : Option (List ℕ)) → Drawn now.left reads (take kept_bytes bytes) r after

@@ -12,10 +12,6 @@ use Rattle.calls.specs.Service.{Service, placed, after_line, SaysLine}
 use Rattle.blocks.specs.declared.ended.Ended.{Ended}
 use Rattle.blocks.specs.declared.ended.Ended.TheVariants.{Input, Output, Turns}
 
--- what a call prints has room in so many bytes, whichever program's it is
-abbrev pub output_room : ℕ
-output_room = 262144
-
 -- what the lines of an input say
 abbrev pub entries_of : (p : Service) → List ℕ → List (Option p.Entry)
 entries_of p input = map p.reads (lines_of input)
@@ -65,7 +61,7 @@ pub record CutShort (t : Taken) : Type 0 where
 abbrev pub EndsSo : Service → Streams → Streams → Ended → Type 0
 EndsSo p before now (Input left) = (last_of left ≡ true) × (EndSeen left → IsAtEnd now.left) × Whole p before now
 EndsSo p before now (Output taken) = (c : CutShort taken) × Begun p before now c.due taken.taken
-EndsSo p before now Turns = (b : Begun p before now [] 0) × (2 ^ 63 - 1 ≤ length b.input)
+EndsSo p before now (Turns turns) = (turns ≡ 2 ^ 64 - 1) × ((b : Begun p before now [] 0) × (2 ^ 63 - 1 ≤ length b.input))
 
 -- ---- the steps
 
@@ -78,4 +74,4 @@ Answers p s said s' out (Some n) = (s' ≡ after_line p s said) × (n ≤ length
 abbrev pub Finished : (p : Service) → p.State → Left → Option (List ℕ) → Option (List ℕ) → Ended → Type 0
 Finished p s left before now (Input l) = (l ≡ left) × ((text : List ℕ) × p.Closes s text × Appends before now text)
 Finished p s left before now (Output taken) = (c : CutShort taken) × p.Closes s c.due × Appends before now (take taken.taken c.due)
-Finished p s left before now Turns = ⊥
+Finished p s left before now (Turns turns) = ⊥

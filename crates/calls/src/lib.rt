@@ -6,5 +6,5 @@
 mod input;
 mod parts;
 
-pub use input::{Calls, OUTPUT_ROOM, serve_input};
+pub use input::{Calls, serve_input};
 pub use parts::{note, refuse};

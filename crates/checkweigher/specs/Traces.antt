@@ -51,8 +51,8 @@ pub record CutShort (before now : Streams) (t : Taken) : Type 0 where
   pub less : t.taken < t.of
   pub begun : program input ≡ (written_in written ++ due) ++ rest
 
--- no more input will come, and all is printed; or `write` did not take all; or all turns were made, as many as 64 bits can count. Where the input has ended, the reader has no more
+-- no more input will come, and all is printed; or `write` did not take all; or all turns were made. Where the input has ended, the reader has no more
 abbrev pub EndsSo : Streams → Streams → Ended → Type 0
 EndsSo before now (Input left) = (last_of left ≡ true) × (EndSeen left → IsAtEnd now.left) × Whole before now
 EndsSo before now (Output taken) = CutShort before now taken
-EndsSo before now Turns = Begun before now (2 ^ 64 - 1)
+EndsSo before now (Turns turns) = (turns ≡ 2 ^ 64 - 1) × Begun before now turns

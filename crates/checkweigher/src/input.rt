@@ -20,7 +20,9 @@ pub(crate) fn serve_input<R: Read, W: Write>(reader: &mut R, writer: &mut W) -> 
     let mut line = Line::fresh();
     let mut settings = [Settings::blank(); RECORDS as usize];
     let mut left = Left::none();
+    let mut turns = 0;
     for _ in 0..u64::MAX {
+        turns += 1;
         let start = left.start;
         let end = left.end;
         let block = serve_block(
@@ -44,5 +46,5 @@ pub(crate) fn serve_input<R: Read, W: Write>(reader: &mut R, writer: &mut W) -> 
         }
         left = left.refilled(reader, &mut input);
     }
-    Ended::Turns
+    Ended::Turns(turns)
 }

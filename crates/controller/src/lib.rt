@@ -44,13 +44,14 @@ mod answer;
 
 pub use answer::{ANSWER_ROOM, no_room};
 use answer::{put_refused, put_report};
-pub use event::{Done, Event, Refused, Reply, Sample, Setup, SorterSetup, Stored};
+pub use event::{Done, Event, Kind, Refused, Reply, Sample, Setup, SorterSetup, Stored};
 pub use line::{Line, Step};
 use print::reply_line;
 pub use refusal::Refusal;
 pub use replay::{Plant, Turned};
 pub use settings::Settings;
 pub use sheet::{Sheet, report};
+pub use tally::Counts;
 use text::Read;
 
 // One line of text: what it says goes through the line, the records and the tallies, and the answer is written to `out` from

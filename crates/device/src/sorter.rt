@@ -3,7 +3,7 @@ ghost use Rattle.std.specs.Prelude.{◌≡◌};
 ghost use Rattle.device.specs.Sorter.{full, sorting, sorter_ticked, queued, sorter_off, sorter_fit};
 
 use queue::Queue;
-use time::is_time;
+use time::{fallen, is_time};
 
 #[derive(Clone, Copy)]
 pub struct Sorter {
@@ -46,7 +46,7 @@ impl Sorter {
         ensures { result ≡ sorter_ticked self to }
     {
         if self.queue.is_empty() {
-            self.on = self.on.saturating_sub(1);
+            self.on = fallen(self.on);
             return self;
         }
         self.waits_ticked(to)
@@ -66,7 +66,7 @@ impl Sorter {
         }
         Sorter {
             queue: next,
-            on: self.on.saturating_sub(1),
+            on: fallen(self.on),
         }
     }
 

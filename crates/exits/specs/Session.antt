@@ -2,19 +2,15 @@
 use Rattle.std.specs.Prelude.{ℕ, ◌+◌, ◌*◌, ◌≤◌, ◌≡◌, Bool, true, false, List, [], length, take, Option, None, Some}
 use Rattle.refusal.specs.Table.{value_no}
 use Rattle.print.specs.Reply.{refused_text}
-use Rattle.pairing.specs.Answer.{longest_list}
 use Rattle.calls.specs.Service.{Service}
 use Rattle.calls.specs.Kept.{noted}
 use Rattle.exitlog.specs.Entry.{read_entry}
 use Rattle.exitlog.specs.Lines.{Prints}
 use Rattle.exitlog.specs.declared.entry.Entry.{Entry}
 use Rattle.exitlog.specs.declared.entry.Entry.TheVariants.{Begin, Verdict, Signal, TooWide}
-use Rattle.exits.specs.declared.session.Call.{Call}
-use Rattle.exits.specs.declared.session.Session.{Session}
-
--- a list that is too long is refused whatever follows: one tick over the longest is kept
-abbrev pub places : ℕ
-places = longest_list + 1
+use Rattle.exits.specs.Memory.{places}
+use Rattle.exits.specs.declared.memory.Call.{Call}
+use Rattle.exits.specs.declared.memory.Session.{Session}
 
 -- the call that is being read; wide once a tick came that 64 bits do not hold
 pub record Reading : Type 0 where
@@ -94,14 +90,3 @@ reading_in (Some c) vs ts = Some (reading_of c vs ts)
 
 abbrev pub state_of : Session → State
 state_of s = reading_in s.call s.verdicts s.signals
-
--- the lists lie in the memories, which have their places
-abbrev pub Within : Option Call → Type 0
-Within None = Unit {0}
-Within (Some c) = (c.verdicts ≤ places) × (c.signals ≤ places)
-
-pub record Holds (s : Session) : Type 0 where
-  pub verdict-places : length s.verdicts ≡ places
-  pub signal-places : length s.signals ≡ places
-  pub pair-places : length s.pairs ≡ 2 * places
-  pub within : Within s.call

@@ -1,48 +1,24 @@
-// A call, line by line: its lists stand in two memories of PLACES numbers each, with how many there are beside, since there is
-// no heap.
+// A call, line by line.
+ghost use Rattle.std.proofs.Common.{rules};
 ghost use Rattle.std.specs.Prelude.{ℕ, List, None, Some};
 ghost use Rattle.calls.specs.Traces.{Answers};
 ghost use Rattle.calls.proofs.Lines.{cut_read};
 ghost use Rattle.exitlog.specs.Entry.{short_entry};
 ghost use Rattle.exitlog.specs.declared.entry.Entry.TheVariants.{Begin, Verdict, Signal, TooWide};
-ghost use Rattle.exits.specs.Session.{exit_calls, state_of, Holds};
+ghost use Rattle.exits.specs.Session.{exit_calls, state_of};
 
+use crate::memory::{Call, Session};
 use blocks::filled;
-use calls::{Calls, OUTPUT_ROOM, note, refuse};
-use exitlog::{Entry, call_lines, read_entry};
-use pairing::LONGEST_LIST;
+use calls::{Calls, note, refuse};
+use exitlog::{CALL_ROOM, Entry, call_lines, read_entry};
 use refusal::Refusal;
-
-// Of a list that is too long one tick over the longest is kept: it is refused whatever follows.
-const PLACES: usize = LONGEST_LIST + 1;
-
-// The call that is being read. Its lists are the first `verdicts` and the first `signals` numbers of the memories.
-#[derive(Clone, Copy)]
-struct Call {
-    // a tick came that 64 bits do not hold: the call is refused, whatever its lists are
-    wide: bool,
-    a: u64,
-    b: u64,
-    verdicts: usize,
-    signals: usize,
-}
-
-// The memories: the call, if one has begun, the ticks of its lists, and the buffer that a call is lent for its pairs.
-#[derive(Drop)]
-pub(crate) struct Session {
-    call: Option<Call>,
-    verdicts: [u64; PLACES],
-    signals: [u64; PLACES],
-    pairs: [u64; 2 * PLACES],
-}
 
 // Each step answers how many bytes it prints, and none where what a line says has no place: before the first call. The two lists
 // have a step each, since a function over both would take the list, its number and its field for three lines.
 impl Session {
     // A call begins, and ends the one before it.
-    fn begin(&mut self, a: u64, b: u64, out: &mut [u8; OUTPUT_ROOM]) -> Option<usize>
-        requires { Holds self.old }
-        ensures { Holds self.new × Answers exit_calls (state_of self.old) (Some (Begin a b)) (state_of self.new) out.new result }
+    fn begin(&mut self, a: u64, b: u64, out: &mut [u8; CALL_ROOM]) -> Option<usize>
+        ensures { Answers exit_calls (state_of self.old) (Some (Begin a b)) (state_of self.new) out.new result }
     {
         let at = self.close(out);
         self.call = Some(Call {
@@ -57,8 +33,7 @@ impl Session {
 
     // A tick joins the verdicts of the call.
     fn verdict(&mut self, tick: u64) -> Option<usize>
-        requires { Holds self.old }
-        ensures { Holds self.new × ((out : List ℕ) → Answers exit_calls (state_of self.old) (Some (Verdict tick)) (state_of self.new) out result) }
+        ensures { (out : List ℕ) → Answers exit_calls (state_of self.old) (Some (Verdict tick)) (state_of self.new) out result }
     {
         let call = self.call?;
         let verdicts = note(&mut self.verdicts, call.verdicts, tick);
@@ -68,8 +43,7 @@ impl Session {
 
     // A tick joins the signals of the call.
     fn signal(&mut self, tick: u64) -> Option<usize>
-        requires { Holds self.old }
-        ensures { Holds self.new × ((out : List ℕ) → Answers exit_calls (state_of self.old) (Some (Signal tick)) (state_of self.new) out result) }
+        ensures { (out : List ℕ) → Answers exit_calls (state_of self.old) (Some (Signal tick)) (state_of self.new) out result }
     {
         let call = self.call?;
         let signals = note(&mut self.signals, call.signals, tick);
@@ -79,8 +53,7 @@ impl Session {
 
     // A tick came that 64 bits do not hold.
     fn too_wide(&mut self) -> Option<usize>
-        requires { Holds self.old }
-        ensures { Holds self.new × ((out : List ℕ) → Answers exit_calls (state_of self.old) (Some TooWide) (state_of self.new) out result) }
+        ensures { (out : List ℕ) → Answers exit_calls (state_of self.old) (Some TooWide) (state_of self.new) out result }
     {
         let call = self.call?;
         self.call = Some(Call { wide: true, ..call });
@@ -88,12 +61,10 @@ impl Session {
     }
 }
 
-impl Calls for Session {
+impl Calls<CALL_ROOM> for Session {
     ghost service = { exit_calls };
 
     ghost state = { state_of };
-
-    ghost sound = { Holds };
 
     fn fresh() -> Session {
         Session {
@@ -104,7 +75,7 @@ impl Calls for Session {
         }
     }
 
-    fn line(&mut self, line: &[u8], out: &mut [u8; OUTPUT_ROOM]) -> Option<usize> {
+    fn line(&mut self, line: &[u8], out: &mut [u8; CALL_ROOM]) -> Option<usize> {
         match read_entry(line)? {
             Entry::Begin { a, b } => self.begin(a, b, out),
             Entry::Verdict(tick) => self.verdict(tick),
@@ -114,7 +85,7 @@ impl Calls for Session {
     }
 
     // A call's lines, or that it has a tick too wide; nothing where none has begun.
-    fn close(&mut self, out: &mut [u8; OUTPUT_ROOM]) -> usize {
+    fn close(&mut self, out: &mut [u8; CALL_ROOM]) -> usize {
         let Some(call) = self.call else {
             return 0;
         };
@@ -132,6 +103,8 @@ impl Calls for Session {
             out,
         )
     }
+
+    ghost wide = { Prim.search rules };
 
     ghost cut = { cut_read short_entry None };
 

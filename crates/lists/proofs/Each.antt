@@ -8,7 +8,7 @@ use Prim.Native.Nat.{ℕ, zero, suc, ◌+◌, ◌≤◌, ◌<◌}
 use native.Mathlib.Omega.{arith}
 use native.Mathlib.Numerals.{add-one}
 use lib.Dec.{ltb}
-use lib.ListN.{length, get_or, take, drop, drop_of_length-le}
+use lib.ListN.{length, get_or, take, drop, drop_of_length-le, length-take}
 use lib.Seq.{drop-cons}
 use borrow.Author.Tests.{lt-ltb}
 use Rattle.laws.specs.Choice.{bit}
@@ -25,9 +25,17 @@ take_counted zero l = refl
 take_counted (suc n) [] = refl
 take_counted {A} (suc n) (x ∷ l) = ap (λ (k : List A). x ∷ k) (take_counted n l)
 
+-- past the end of the first n none is left
+pub first-end : {A : Type 0} (n : ℕ) (l : List A) → drop n (take n l) ≡ []
+first-end n l = drop_of_length-le (take n l) {i = n} (omega (arith, length-take n l))
+
 -- ---- a test of a list
 
 module _ {A : Type 0} (p : A → Bool) where
+  pub all_end : (n : ℕ) (l : List A) → all_of p (drop n (take n l)) ≡ true
+  unfolding all_of
+  all_end n l = rw (first-end n l) refl
+
   -- one passes exactly where the number of those that pass is above 0
   pub one-counted : (l : List A) → ltb 0 (counted p l) ≡ any_of p l
   unfolding any_of counted
@@ -72,7 +80,7 @@ module _ {A : Type 0} (p : A → Bool) where
       (f : A → Bool) (g : A → A) → ((x : A) → f x ≡ true → p (g x) ≡ false → f (g x) ≡ true)
       → (l : List A) → all_of f l ≡ true → all_of f (without p (map g l)) ≡ true
   unfolding all_of without
-  without_keeps f g one [] h = refl
+  without_keeps f g one [] h = h
   without_keeps f g one (x ∷ l) h =
       let b = both (f x) (all_of f l) h in
       if_ind (λ (k : List A). all_of f k ≡ true) (p (g x)) _ _
@@ -84,7 +92,7 @@ pub map_keeps :
     {A : Type 0} (f : A → Bool) (g : A → A) → ((x : A) → f x ≡ true → f (g x) ≡ true)
     → (l : List A) → all_of f l ≡ true → all_of f (map g l) ≡ true
 unfolding all_of
-map_keeps f g one [] h = refl
+map_keeps f g one [] h = h
 map_keeps f g one (x ∷ l) h = let b = both (f x) (all_of f l) h in and_intro (one x b.0) (map_keeps f g one l b.1)
 
 -- ---- the list without the first that passes
@@ -98,7 +106,7 @@ module _ {A : Type 0} (p : A → Bool) where
 
   pub first_keeps : (f : A → Bool) (l : List A) → all_of f l ≡ true → all_of f (without_first p l) ≡ true
   unfolding all_of without_first
-  first_keeps f [] h = refl
+  first_keeps f [] h = h
   first_keeps f (x ∷ l) h =
       let b = both (f x) (all_of f l) h in
       if_ind (λ (k : List A). all_of f k ≡ true) (p x) _ _

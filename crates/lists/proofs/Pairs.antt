@@ -61,7 +61,7 @@ module _ {A B : Type 0} (f : A → B → A) where
       (fit : A → Bool) (sound : B → Bool) → ((x : A) (y : B) → fit x ≡ true → sound y ≡ true → fit (f x y) ≡ true)
       → (xs : List A) (ys : List B) → all_of fit xs ≡ true → all_of sound ys ≡ true → all_of fit (each_pair f xs ys) ≡ true
   unfolding each_pair all_of
-  pairs_keep fit sound one [] ys h k = refl
+  pairs_keep fit sound one [] ys h k = h
   pairs_keep fit sound one (x ∷ xs) [] h k = h
   pairs_keep fit sound one (x ∷ xs) (y ∷ ys) h k =
       let a = both (fit x) (all_of fit xs) h in

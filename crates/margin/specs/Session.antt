@@ -5,18 +5,15 @@ use Rattle.event.specs.declared.Stored.{Stored}
 use Rattle.print.specs.Reply.{refused_text}
 use Rattle.calls.specs.Service.{Service}
 use Rattle.calls.specs.Kept.{noted}
-use Rattle.possible.specs.Answer.{most_samples, number_of}
+use Rattle.possible.specs.Answer.{number_of}
 use Rattle.possible.specs.declared.Refusal.TheVariants.{Samples}
 use Rattle.marginlog.specs.Entry.{read_entry}
 use Rattle.marginlog.specs.Lines.{Prints}
 use Rattle.marginlog.specs.declared.entry.Entry.{Entry}
 use Rattle.marginlog.specs.declared.entry.Entry.TheVariants.{Begin, Store, Gross}
-use Rattle.margin.specs.declared.session.Call.{Call}
-use Rattle.margin.specs.declared.session.Session.{Session}
-
--- samples that are too many are refused whatever follows: one over the most is kept
-abbrev pub places : ℕ
-places = most_samples + 1
+use Rattle.margin.specs.Memory.{places}
+use Rattle.margin.specs.declared.memory.Call.{Call}
+use Rattle.margin.specs.declared.memory.Session.{Session}
 
 -- the call that is being read, and its code and settings once they came
 pub record Reading : Type 0 where
@@ -92,12 +89,3 @@ reading_in (Some c) xs = Some (reading_of c xs)
 
 abbrev pub state_of : Session → State
 state_of s = reading_in s.call s.samples
-
--- the samples lie in the memory, which has its places
-abbrev pub Within : Option Call → Type 0
-Within None = Unit {0}
-Within (Some c) = c.count ≤ places
-
-pub record Holds (s : Session) : Type 0 where
-  pub all-places : length s.samples ≡ places
-  pub within : Within s.call

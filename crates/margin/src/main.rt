@@ -2,6 +2,7 @@
 #![tactic(auto)]
 
 mod input;
+mod memory;
 mod session;
 
 use input::serve_input;

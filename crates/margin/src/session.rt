@@ -1,44 +1,26 @@
-// A call, line by line: its samples stand in a memory of PLACES numbers, with how many there are beside, since there is no heap.
+// A call, line by line.
+ghost use Rattle.std.proofs.Common.{rules};
 ghost use Rattle.std.specs.Prelude.{ℕ, List, None, Some};
 ghost use Rattle.calls.specs.Traces.{Answers};
 ghost use Rattle.calls.proofs.Lines.{cut_read};
 ghost use Rattle.marginlog.specs.Entry.{short_entry};
 ghost use Rattle.marginlog.specs.declared.entry.Entry.TheVariants.{Begin, Store, Gross};
-ghost use Rattle.margin.specs.Session.{margin_calls, state_of, Holds};
+ghost use Rattle.margin.specs.Session.{margin_calls, state_of};
 
+use crate::memory::{Call, Session};
 use blocks::filled;
-use calls::{Calls, OUTPUT_ROOM, note, refuse};
+use calls::{Calls, note, refuse};
 use event::Stored;
 use marginlog::{Entry, call_line, read_entry};
-use possible::{MOST_SAMPLES, Refusal};
-
-// Of samples that are too many one over the most is kept: they are refused whatever follows.
-const PLACES: usize = MOST_SAMPLES + 1;
-
-// The call that is being read. Its samples are the first `count` numbers of the memory.
-#[derive(Clone, Copy)]
-struct Call {
-    // the margin, in divisions
-    e: u64,
-    // its code and settings, once they came
-    stored: Option<Stored>,
-    count: usize,
-}
-
-// The call, if one has begun, with the memory of its samples.
-#[derive(Drop)]
-pub(crate) struct Session {
-    call: Option<Call>,
-    samples: [i64; PLACES],
-}
+use possible::Refusal;
+use print::REPLY_ROOM;
 
 // Each step answers how many bytes it prints, and none where what a line says has no place: the settings stand behind the line
 // that begins the call, and the samples behind the settings.
 impl Session {
     // A call begins, and ends the one before it.
-    fn begin(&mut self, e: u64, out: &mut [u8; OUTPUT_ROOM]) -> Option<usize>
-        requires { Holds self.old }
-        ensures { Holds self.new × Answers margin_calls (state_of self.old) (Some (Begin e)) (state_of self.new) out.new result }
+    fn begin(&mut self, e: u64, out: &mut [u8; REPLY_ROOM]) -> Option<usize>
+        ensures { Answers margin_calls (state_of self.old) (Some (Begin e)) (state_of self.new) out.new result }
     {
         let at = self.close(out);
         self.call = Some(Call {
@@ -51,8 +33,7 @@ impl Session {
 
     // The settings of the call.
     fn store(&mut self, stored: Stored) -> Option<usize>
-        requires { Holds self.old }
-        ensures { Holds self.new × ((out : List ℕ) → Answers margin_calls (state_of self.old) (Some (Store stored)) (state_of self.new) out result) }
+        ensures { (out : List ℕ) → Answers margin_calls (state_of self.old) (Some (Store stored)) (state_of self.new) out result }
     {
         let call = self.call?;
         if call.stored.is_some() {
@@ -67,8 +48,7 @@ impl Session {
 
     // A sample joins those of the call, in divisions.
     fn sample(&mut self, gross: i64) -> Option<usize>
-        requires { Holds self.old }
-        ensures { Holds self.new × ((out : List ℕ) → Answers margin_calls (state_of self.old) (Some (Gross gross)) (state_of self.new) out result) }
+        ensures { (out : List ℕ) → Answers margin_calls (state_of self.old) (Some (Gross gross)) (state_of self.new) out result }
     {
         let call = self.call?;
         if call.stored.is_none() {
@@ -80,12 +60,10 @@ impl Session {
     }
 }
 
-impl Calls for Session {
+impl Calls<REPLY_ROOM> for Session {
     ghost service = { margin_calls };
 
     ghost state = { state_of };
-
-    ghost sound = { Holds };
 
     fn fresh() -> Session {
         Session {
@@ -94,7 +72,7 @@ impl Calls for Session {
         }
     }
 
-    fn line(&mut self, line: &[u8], out: &mut [u8; OUTPUT_ROOM]) -> Option<usize> {
+    fn line(&mut self, line: &[u8], out: &mut [u8; REPLY_ROOM]) -> Option<usize> {
         match read_entry(line)? {
             Entry::Begin(e) => self.begin(e, out),
             Entry::Store(stored) => self.store(stored),
@@ -103,7 +81,7 @@ impl Calls for Session {
     }
 
     // A call's line; nothing where none has begun. One without settings has no samples either.
-    fn close(&mut self, out: &mut [u8; OUTPUT_ROOM]) -> usize {
+    fn close(&mut self, out: &mut [u8; REPLY_ROOM]) -> usize {
         let Some(call) = self.call else {
             return 0;
         };
@@ -119,6 +97,8 @@ impl Calls for Session {
             out,
         )
     }
+
+    ghost wide = { Prim.search rules };
 
     ghost cut = { cut_read short_entry None };
 

@@ -1,5 +1,8 @@
 -- What a step of the reader does to the rest of the line. Assumes nothing.
-use Prim.Native.Nat.{ℕ, zero, suc, ◌+◌, ◌-◌, ◌*◌, ◌≤◌, ◌<◌, min}
+use Prim.Native.Nat.{ℕ, zero, suc, ◌+◌, ◌-◌, ◌*◌, ◌^◌, ◌≤◌, ◌<◌, min}
+use mir.Val.{to_z}
+use mir.Syntax.{w64}
+use Rattle.laws.proofs.Signed.{to_z_small}
 use mathlib.Core.Path.{◌≡◌, refl, sym, ap, ◌∙◌}
 use mathlib.Core.Bool.{Bool, true, false, ◌&&◌, and-false}
 use mathlib.Core.List.{List, [], ◌∷◌}
@@ -171,3 +174,25 @@ four-found line i a b c d p q r t =
     let n : a * 1000 + b * 100 + c * 10 + d ≡ four_number w x y z = cc (p.value, q.value, r.value, t.value) in
     rw (four-cut line i (omega (arith, t.inside)), p.test, q.test, r.test, t.test, n)
     (ap (λ (m : ℕ). some (pos m) (drop (i + 4) line)) small)
+
+-- the same of what is read at each of the four places
+module _ (line : List ℕ) (i : ℕ) where
+  pub four_none_2 : digit_head (drop (i + 1) line) ≡ None → held_head (four_head (drop i line)) ≡ none
+  four_none_2 e = sym (four-none line i 1 (omega arith) (sym e))
+
+  pub four_none_3 : digit_head (drop (i + 2) line) ≡ None → held_head (four_head (drop i line)) ≡ none
+  four_none_3 e = sym (four-none line i 2 (omega arith) (sym e))
+
+  pub four_none_4 : digit_head (drop (i + 3) line) ≡ None → held_head (four_head (drop i line)) ≡ none
+  four_none_4 e = sym (four-none line i 3 (omega arith) (sym e))
+
+  pub four_read : (a b c d : ℕ) → digit_head (drop i line) ≡ Some a → digit_head (drop (i + 1) line) ≡ Some b
+      → digit_head (drop (i + 2) line) ≡ Some c → digit_head (drop (i + 3) line) ≡ Some d
+      → held_head (four_head (drop i line)) ≡ some (to_z w64 (a * 1000 + b * 100 + c * 10 + d)) (drop (i + 4) line)
+  four_read a b c d ea eb ec ed =
+      let p = digit-here line i a (sym ea) in
+      let q = digit-here line (i + 1) b (sym eb) in
+      let r = digit-here line (i + 2) c (sym ec) in
+      let t = digit-here line (i + 3) d (sym ed) in
+      let small : a * 1000 + b * 100 + c * 10 + d < 2 ^ 63 = omega (arith, p.value, q.value, r.value, t.value, p.most, q.most, r.most, t.most) in
+      rw (to_z_small (a * 1000 + b * 100 + c * 10 + d) small) (sym (four-found line i a b c d p q r t))

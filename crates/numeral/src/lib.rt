@@ -81,6 +81,7 @@ pub fn read_number(line: &[u8], at: usize) -> Option<Found>
     read_positive(line, at, false)
 }
 
+#[tactic(auto, using(crate::proofs::Heads::four_none_2, crate::proofs::Heads::four_none_3, crate::proofs::Heads::four_none_4, crate::proofs::Heads::four_read))]
 pub fn read_four(line: &[u8], at: usize) -> Option<Found>
     ensures { found line.now result ≡ held_head (four_head (drop at line.now)) }
 {

@@ -4,6 +4,9 @@ use mathlib.Core.Bool.{true, false, ◌&&◌}
 use mathlib.Core.List.{List}
 use Prim.Native.Nat.{ℕ, ◌+◌, ◌≤◌, ◌<◌, min}
 use native.Mathlib.Omega.{arith}
+use mir.Facts.{to_z-of_z}
+use mir.Val.{SFits, to_z, of_z}
+use mir.Syntax.{w64}
 use lib.Dec.{eqb}
 use lib.IntN.{ℤ, nat_abs}
 use lib.ListN.{length, get_or, drop, drop_of_length-le}
@@ -50,6 +53,10 @@ cut_fit p s e h =
         (λ n. rw (n, ne_eqb (add_up p.classes) p.tally.n (λ z. eqb-false s p.tally.n n (omega arith))) refl)
 
 -- ---- a verdict
+
+-- a number that fits 64 bits, given to a call, is the same there
+pub as_given : (x : ℤ) → SFits w64 x → to_z w64 (of_z w64 x) ≡ x
+as_given x h = to_z-of_z h
 
 module _ (p : Part) (v : ℕ) (net target : ℤ) where
   -- a part that is unfit, or a target that is no weight, takes nothing

@@ -35,7 +35,7 @@ impl Part {
 
     // The part with a verdict, if it takes it: a graded one has a class, another has none. Net, and the code's target at the
     // verdict, are in divisions.
-    #[tactic(auto, using(crate::proofs::Noted::unsound, crate::proofs::Noted::untaken, crate::proofs::Noted::net_weight, crate::proofs::Noted::target_weight, crate::proofs::Laws::count_small))]
+    #[tactic(auto, using(crate::proofs::Noted::unsound, crate::proofs::Noted::untaken, crate::proofs::Noted::noted_grade, crate::proofs::Noted::noted_other, crate::proofs::Noted::as_given, crate::proofs::Noted::net_weight, crate::proofs::Noted::target_weight, crate::proofs::Laws::count_small))]
     pub fn noted(mut self, verdict: u64, net: i64, target: i64) -> Option<Part>
         ensures { result ≡ noted_part self verdict net target }
     {

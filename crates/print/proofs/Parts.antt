@@ -4,7 +4,10 @@ use mathlib.Core.List.{List, [], ◌∷◌, ◌++◌, append_assoc, append-nil}
 use Prim.Native.Nat.{ℕ, ◌+◌, ◌≤◌, ◌<◌}
 use native.Mathlib.Omega.{arith}
 use lib.ListN.{length}
-use Rattle.print.specs.Text.{ahead, joined}
+use Rattle.decimal.specs.Bytes.{bytes}
+use Rattle.event.specs.declared.reply.Done.{Done}
+use Rattle.print.specs.Text.{ahead, joined, line_end}
+use Rattle.print.specs.Reply.{shown, did, done_text}
 use Rattle.print.specs.Steps.{Writes}
 use Rattle.print.specs.declared.lines.Lines.{Lines}
 use Rattle.print.proofs.Writes.{writes_then, writes_in, writes_as}
@@ -46,3 +49,10 @@ module _ (between : List ℕ) where
   six-parts fs gs hs is js ks e h =
       sym (sym (two-parts fs (gs ++ (hs ++ (is ++ (js ++ ks)))) e h)
       ∙ rw (ahead_then gs (hs ++ (is ++ (js ++ ks))), ahead_then hs (is ++ (js ++ ks)), ahead_then is (js ++ ks), ahead_then js ks) (simp append_assoc))
+
+-- the line of a reply: what is shown, what was done, and LF
+pub done_written : {x y z w : Lines} (d : Done) → Writes x (joined (bytes " ") (shown d)) 111 y → Writes y (ahead (bytes " ") (did d)) 140 z
+    → Writes z line_end 1 w → Writes x (done_text d) 252 w
+unfolding done_text
+done_written d a b c =
+    writes_in (omega arith) (writes_as (two-parts (bytes " ") (shown d) (did d) line_end (omega arith)) (writes_then a (writes_then b c)))

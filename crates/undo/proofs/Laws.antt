@@ -15,7 +15,7 @@ use Rattle.part.proofs.Chosen.{none_given, some_given}
 use Rattle.part.proofs.Laws.{fit-part, part_fit_lem, added-fits}
 use Rattle.tallies.specs.Memory.{lies, fit_at, part_at, read_at, part_at_fit, with_part, written}
 use Rattle.tallies.proofs.Parts.{held-fit, read_is, written_is}
-use Rattle.undo.specs.Undo.{takes_at}
+use Rattle.undo.specs.Undo.{takes_at, kept_of, noted_in}
 
 module _ (ts : List ℤ) (c v : ℕ) (net target : ℤ) where
   -- a part that is unfit takes nothing
@@ -48,6 +48,20 @@ module _ (ts : List ℤ) (c v : ℕ) (net target : ℤ) where
           let q = added_part (part_at ts c) v net target in
           rw taken_in_part.1
           (written_is ts c q (both (lies ts c) (part_at_fit ts c) sound).0 (part_fit_lem q (added-fits (part_at ts c) v net target taken_in_part.0)))
+
+  -- the same of each clause of `note`
+  module _ (p : Part) (read : p ≡ read_at ts c) (sound : fit_at ts c ≡ true) where
+    pub kept_none : noted_part p v net target ≡ None → kept_of ts c v net target ≡ None
+    kept_none h = rw (untaken sound p read h) refl
+
+    pub kept_same : noted_part p v net target ≡ None → noted_in ts c v net target ≡ ts
+    kept_same h = rw (untaken sound p read h) refl
+
+    pub kept_some : (next : Part) → noted_part p v net target ≡ Some next → kept_of ts c v net target ≡ Some p
+    kept_some next h = rw (taken sound p read next h, there sound p read) refl
+
+    pub kept_next : (next : Part) → noted_part p v net target ≡ Some next → noted_in ts c v net target ≡ written ts c next
+    kept_next next h = rw (taken sound p read next h, taken-written sound p read next h) refl
 
   -- where all is fit, a verdict is taken while there is room
   pub taken_by-room : lies ts c ≡ true → part_at_fit ts c ≡ true → is_verdict v ≡ true → is_weight net ≡ true → is_weight target ≡ true

@@ -29,7 +29,7 @@ pub fn put_back(kept: Option<Part>, tallies: &mut [i64], code: u64)
 
 // A verdict is tallied under a code, and what stood there before it is kept. Where there is no room, or what comes in is
 // unfit, nothing changes and nothing is kept. Net, and the code's target at the verdict, are in divisions.
-#[tactic(auto, using(crate::proofs::Laws::unsound))]
+#[tactic(auto, using(crate::proofs::Laws::unsound, crate::proofs::Laws::kept_none, crate::proofs::Laws::kept_same, crate::proofs::Laws::kept_some, crate::proofs::Laws::kept_next, part::proofs::Noted::as_given))]
 pub fn note(tallies: &mut [i64], code: u64, verdict: u64, net: i64, target: i64) -> Option<Part>
     ensures kept { result ≡ kept_of tallies.old code verdict net target }
     ensures memory { tallies.new ≡ noted_in tallies.old code verdict net target }

@@ -12,22 +12,29 @@ use lib.ListN.{length, get_or, take, drop, length-drop}
 use lib.Seq.{take_all}
 use Rattle.std.specs.Int.{int_max, int_min}
 use Rattle.laws.proofs.Signed.{back, abs_sub, sfits_abs}
-use Rattle.lists.specs.Each.{all_of}
+use Rattle.lists.specs.Each.{all_of, folded}
 use Rattle.lists.proofs.Each.{folded-next, folded-end}
 use Rattle.weight.specs.Weight.{largest_weight, is_weight}
 use Rattle.bench.specs.Bench.{last_ticks, largest_of, smallest_of}
 use Rattle.bench.proofs.Grosses.{largest_weight_lem, smallest-weight, largest-first, smallest-first}
 use Rattle.bench.proofs.apart.Goals as goal
 
--- all behind the first
-behind : (l : List ℤ) → length l ≡ last_ticks → take 9 (drop 1 l) ≡ drop 1 l
-behind l h = take_all 9 (drop 1 l) (omega (arith, length-drop 1 l))
+-- the first, and all behind it
+module _ (l : List ℤ) (h : length l ≡ last_ticks) where
+  behind : take 9 (drop 1 l) ≡ drop 1 l
+  behind = take_all 9 (drop 1 l) (omega (arith, length-drop 1 l))
+
+  largest_behind : largest_of l ≡ folded int_max (get_or l 0 (pos 0)) (take 9 (drop 1 l))
+  largest_behind = rw behind (largest-first l (omega arith))
+
+  smallest_behind : smallest_of l ≡ folded int_min (get_or l 0 (pos 0)) (take 9 (drop 1 l))
+  smallest_behind = rw behind (smallest-first l (omega arith))
 
 pub loop-gross-init : goal.loop-gross-init
 loop-gross-init c =
     let w = c.args.grosses in
     let ten : length w ≡ last_ticks = search rules in
-    rw (behind w ten, back (get_or w 0 (pos 0)) (search rules)) (largest-first w (omega arith), smallest-first w (omega arith))
+    rw (back (get_or w 0 (pos 0)) (search rules)) (largest_behind w ten, smallest_behind w ten)
 
 pub loop-gross-preserved : goal.loop-gross-preserved
 loop-gross-preserved c =

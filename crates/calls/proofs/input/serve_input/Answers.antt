@@ -10,13 +10,14 @@ pub loop-init : goal.loop-init
 loop-init g c =
     let p = g.C.Calls in
     let q = g.met.C.Calls in
-    rw (c.none-left.ensures, c.fresh-calls.ensures.1) (
+    rw (c.none-left.ensures, c.fresh-calls.ensures) (
       c.large_buffer-input.ensures,
-      c.fresh-calls.ensures.0,
+      c.filled-out.ensures,
       omega arith,
       omega arith,
       traced_fresh p.service q.cut q.quiet _,
       λ e. cc,
+      refl,
     )
 
 pub returns-then-is_last : goal.returns-then-is_last
@@ -42,7 +43,7 @@ loop-preserved-then-last-end g c =
     (sym c.is_last.ensures ∙ c.if-is_last.false) (omega (arith, n)) r.result r.new.input r.ensures.refilled _ drawn in
     let m = on.0 in
     let e = on.2 in
-    (m ∙ n, l.invariant.1, on.1, omega (arith, m, e, n), on.3, drawn.ended)
+    (m ∙ n, l.invariant.1, on.1, omega (arith, m, e, n), on.3, drawn.ended, omega (arith, l.invariant.6))
 
 pub returns-then-not-all : goal.returns-then-not-all
 returns-then-not-all g c =
@@ -73,14 +74,20 @@ loop-preserved g c =
     let all = took_all text t.result t.ensures.taken (sym c.all.ensures ∙ c.if-not-all.false) in
     let on = turn-goes p.service q.cut q.quiet _ _ l.input l.left (p.state l.calls) l.invariant.2 (omega (arith, n, w)) _ c.line_end-end.ensures l.invariant.4 c.if-last-end.false _ refl
     text served.ensures.says _ (rw all at t.ensures.written) (p.state served.new.calls) served.ensures.after in
-    rw c.past-left.ensures (n, served.ensures.kept.0, on.0, w, on.1, l.invariant.5)
+    rw c.past-left.ensures (n, served.ensures.within.0, on.0, w, on.1, l.invariant.5, omega (arith, l.invariant.6))
 
 pub returns : goal.returns
 returns g c =
     let p = g.C.Calls in
     let q = g.met.C.Calls in
     let l = c.loop in
-    let t = c.loop-test.false in (
-      traced-due p.service q.cut q.quiet _ _ (p.state l.calls) (bytes_left l.left l.input) (last_of l.left) l.invariant.4,
-      turns-read p.service q.cut q.quiet _ _ (p.state l.calls) (bytes_left l.left l.input) (last_of l.left) l.invariant.4 (omega (arith, t)),
+    let t = c.loop-test.false in
+    let e = l.invariant.6 in
+    let traced = l.invariant.4 in
+    let left = bytes_left l.left l.input in (
+      omega (arith, t, e),
+      (traced-due p.service q.cut q.quiet _ _ (p.state l.calls) left (last_of l.left) traced, turns-read p.service q.cut q.quiet _ _ (p.state l.calls) left (last_of l.left) traced (omega (arith, t))),
     )
+
+pub filled-out-requires : goal.filled-out-requires
+filled-out-requires g c = let h = g.met.C.Calls.wide.1 in omega (arith, h)

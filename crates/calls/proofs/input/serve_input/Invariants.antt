@@ -10,8 +10,9 @@ use Rattle.calls.proofs.input.serve_input.Given as goal
 
 abbrev pub invariant-loop : goal.invariant-loop
 invariant-loop g l =
-    (length l.input ≡ 65536) × g.C.Calls.sound l.calls
+    (length l.input ≡ 65536) × (length l.out ≡ g.row.ROOM)
     × (l.left.start ≤ l.left.end) × (l.left.end ≤ 65536)
     × Traced g.C.Calls.service (streams (g.R.Read.remaining l.fn.reader) (g.W.Write.contents l.fn.writer)) (streams (g.R.Read.remaining l.reader) (g.W.Write.contents l.writer))
     (g.C.Calls.state l.calls) (bytes_left l.left l.input) (last_of l.left) l.counter
     × (EndSeen l.left → IsAtEnd (g.R.Read.remaining l.reader))
+    × (l.turns ≡ l.counter)

@@ -2,7 +2,7 @@
 use mathlib.Core.Path.{◌≡◌, refl, sym, subst, ◌∙◌}
 use mathlib.Core.Bool.{true, false}
 use native.Mathlib.Omega.{arith}
-use Prim.Native.Nat.{◌-◌}
+use Prim.Native.Nat.{◌-◌, ◌^◌}
 use lib.ListN.{length, take, drop}
 use lib.Seq.{length-take-le}
 use Rattle.line.specs.State.{state}
@@ -25,6 +25,7 @@ loop-init g c =
       order = omega arith;
       within = omega arith;
       turns = omega arith;
+      counted = refl;
       traced = rw (c.fresh-line.ensures, c.blank-settings.ensures) (traced_fresh _);
       ended = λ e. cc;
     })
@@ -71,6 +72,7 @@ loop-preserved-then-no_room g c =
       order = on.0;
       within = l.invariant.within;
       turns = omega (arith, t);
+      counted = let e = l.invariant.counted in omega (arith, e);
       traced = on.2;
       ended = l.invariant.ended;
     })
@@ -118,6 +120,7 @@ loop-preserved g c =
       order = on.0;
       within = omega (arith, m, n, same);
       turns = omega (arith, t);
+      counted = let e = l.invariant.counted in omega (arith, e);
       traced = on.2;
       ended = on.3;
     }
@@ -125,4 +128,6 @@ loop-preserved g c =
 pub returns : goal.returns
 returns g c =
     let l = c.loop in
-    traced_begun _ _ (state l.line l.settings l.tallies) (bytes_left l.left l.input) (last_of l.left) l.counter l.invariant.traced (omega (arith, c.loop-test.false, l.invariant.turns))
+    let e = l.invariant.counted in
+    let all : l.turns ≡ 2 ^ 64 - 1 = omega (arith, c.loop-test.false, l.invariant.turns, e) in
+    (all, traced_begun _ _ (state l.line l.settings l.tallies) (bytes_left l.left l.input) (last_of l.left) l.counter l.invariant.traced (sym e))

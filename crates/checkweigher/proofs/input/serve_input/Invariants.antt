@@ -19,6 +19,7 @@ invariant-loop g l =
       order : l.left.start ≤ l.left.end;
       within : l.left.end ≤ 65536;
       turns : l.counter ≤ 2 ^ 64 - 1;
+      counted : l.turns ≡ l.counter;
       traced :
           Traced (streams (g.R.Read.remaining l.fn.reader) (g.W.Write.contents l.fn.writer)) (streams (g.R.Read.remaining l.reader) (g.W.Write.contents l.writer))
           (state l.line l.settings l.tallies) (bytes_left l.left l.input) (last_of l.left) l.counter;

@@ -2,13 +2,16 @@
 use borrow.Author.Rules.{rules}
 use borrow.Author.Tests.{eq-eqb, ne_eqb}
 use mathlib.Core.Bool.{true, false}
+use mathlib.Core.List.{List}
 use mathlib.Core.Path.{◌≡◌, sym, ◌∙◌}
+use Prim.Native.Nat.{ℕ}
 use native.Mathlib.Omega.{arith}
-use lib.ListN.{get_or}
+use lib.ListN.{get_or, take}
 use lib.Seq.{take_all}
-use Rattle.lists.proofs.Places.{none-packed, packed-stays, packed-leaves}
+use Rattle.lists.proofs.Places.{Packing, none-packed, packed-stays, packed-leaves}
 use Rattle.time.specs.Time.{fallen, ended}
-use Rattle.queue.specs.Queue.{places, laid, is_empty, queue_ticked}
+use Rattle.queue.specs.Queue.{places, waits_of, laid, is_empty, queue_ticked}
+use Rattle.queue.specs.declared.Queue.{Queue}
 use Rattle.queue.proofs.Waits.{few_waits}
 use Rattle.queue.proofs.Queue.ticked.Goals as goal
 use Rattle.queue.proofs.Queue.ticked.Goals.{then-wait-gt-LAST_TICK, else-wait-gt-LAST_TICK}
@@ -39,10 +42,17 @@ loop-wait-preserved c =
       )
     ]
 
-pub returns : goal.returns
+-- all the waits packed, and their number
+packed_laid : (q : Queue) (w left : List ℕ) (i k : ℕ) → is_empty q ≡ false → take i w ≡ waits_of q → Packing places 0 ended fallen w i left k
+    → ◌≡◌ {A = Queue} (record { waits = left; n = k }) (queue_ticked q)
 unfolding queue_ticked laid
+packed_laid q w left i k e t p = rw (e, p.held, p.count, t)
+
+pub returns : goal.returns
 returns c =
     let l = c.loop-wait in
     let w = c.taken-wait-items.result.now in
-    let e : is_empty c.args.self ≡ false = sym c.is_empty.ensures ∙ c.if-is_empty.false in
-    rw (e, l.invariant.1.held, l.invariant.1.count, take_all l.wait-index w (omega arith), c.taken-wait-items.ensures)
+    packed_laid c.args.self w l.left l.wait-index l.k
+    (sym c.is_empty.ensures ∙ c.if-is_empty.false)
+    (take_all l.wait-index w (omega arith) ∙ c.taken-wait-items.ensures)
+    l.invariant.1
