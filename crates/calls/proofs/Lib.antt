@@ -1,3 +1,4 @@
 pub mod Lines
 pub mod Traced
 pub mod Kept
+pub mod Room

@@ -12,6 +12,10 @@ use Rattle.calls.specs.Service.{Service, placed, after_line, SaysLine}
 use Rattle.blocks.specs.declared.ended.Ended.{Ended}
 use Rattle.blocks.specs.declared.ended.Ended.TheVariants.{Input, Output, Turns}
 
+-- what a call prints has room in so many bytes, where the program says no room of its own
+abbrev pub output_room : ℕ
+output_room = 262144
+
 -- what the lines of an input say
 abbrev pub entries_of : (p : Service) → List ℕ → List (Option p.Entry)
 entries_of p input = map p.reads (lines_of input)

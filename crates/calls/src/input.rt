@@ -12,7 +12,7 @@ use refusal::Refusal;
 use std::io::{Read, Write};
 
 // The calls of a program, as it keeps them from line to line. What a call prints has room in ROOM bytes.
-pub trait Calls<const ROOM: usize> {
+pub trait CallsWithRoom<const ROOM: usize> {
     // what the program's lines say, leave and print
     ghost service: { Service };
 
@@ -44,7 +44,7 @@ pub trait Calls<const ROOM: usize> {
 }
 
 // A line of text: what it prints goes to the front of `out`, and its length is the answer. One of no form or place is refused.
-fn serve_line<const ROOM: usize, C: Calls<ROOM>>(
+fn serve_line<const ROOM: usize, C: CallsWithRoom<ROOM>>(
     calls: &mut C,
     line: &[u8],
     out: &mut [u8; ROOM],
@@ -60,7 +60,7 @@ fn serve_line<const ROOM: usize, C: Calls<ROOM>>(
 }
 
 // The end of the input ends the last call.
-fn finish<const ROOM: usize, C: Calls<ROOM>, W: Write>(
+fn finish<const ROOM: usize, C: CallsWithRoom<ROOM>, W: Write>(
     calls: &mut C,
     writer: &mut W,
     out: &mut [u8; ROOM],
@@ -77,7 +77,7 @@ fn finish<const ROOM: usize, C: Calls<ROOM>, W: Write>(
 }
 
 // Each complete line in the buffer is served, and what it prints written; where none is left, more is read.
-pub fn serve_input<const ROOM: usize, C: Calls<ROOM> + Drop, R: Read, W: Write>(
+pub fn serve_input_with_room<const ROOM: usize, C: CallsWithRoom<ROOM> + Drop, R: Read, W: Write>(
     reader: &mut R,
     writer: &mut W,
 ) -> Ended

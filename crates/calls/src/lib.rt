@@ -3,8 +3,12 @@
 // `proofs/` has the turns of its loop.
 #![tactic(auto)]
 
+mod fixed;
 mod input;
 mod parts;
+#[cfg(test)]
+mod tests;
 
-pub use input::{Calls, serve_input};
+pub use fixed::{Calls, OUTPUT_ROOM, serve_input};
+pub use input::{CallsWithRoom, serve_input_with_room};
 pub use parts::{note, refuse};

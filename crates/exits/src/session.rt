@@ -9,7 +9,7 @@ ghost use Rattle.exits.specs.Session.{exit_calls, state_of};
 
 use crate::memory::{Call, Session};
 use blocks::filled;
-use calls::{Calls, note, refuse};
+use calls::{CallsWithRoom, note, refuse};
 use exitlog::{CALL_ROOM, Entry, call_lines, read_entry};
 use refusal::Refusal;
 
@@ -61,7 +61,7 @@ impl Session {
     }
 }
 
-impl Calls<CALL_ROOM> for Session {
+impl CallsWithRoom<CALL_ROOM> for Session {
     ghost service = { exit_calls };
 
     ghost state = { state_of };

@@ -13,5 +13,5 @@ use std::io::{Read, Write};
 pub(crate) fn serve_input<R: Read, W: Write>(reader: &mut R, writer: &mut W) -> Ended
     ensures { EndsSo margin_calls (streams (R.remaining reader.old) (W.contents writer.old)) (streams (R.remaining reader.new) (W.contents writer.new)) result }
 {
-    calls::serve_input::<REPLY_ROOM, Session, R, W>(reader, writer)
+    calls::serve_input_with_room::<REPLY_ROOM, Session, R, W>(reader, writer)
 }

@@ -9,7 +9,7 @@ ghost use Rattle.margin.specs.Session.{margin_calls, state_of};
 
 use crate::memory::{Call, Session};
 use blocks::filled;
-use calls::{Calls, note, refuse};
+use calls::{CallsWithRoom, note, refuse};
 use event::Stored;
 use marginlog::{Entry, call_line, read_entry};
 use possible::Refusal;
@@ -60,7 +60,7 @@ impl Session {
     }
 }
 
-impl Calls<REPLY_ROOM> for Session {
+impl CallsWithRoom<REPLY_ROOM> for Session {
     ghost service = { margin_calls };
 
     ghost state = { state_of };

@@ -7,7 +7,7 @@ use Rattle.std.specs.Prelude.{Some}
 use Rattle.laws.proofs.Signed.{back}
 use Rattle.marginlog.specs.Entry.{read_entry}
 use Rattle.marginlog.specs.declared.entry.Entry.TheVariants.{Store, Gross}
-use Rattle.margin.proofs.session.SessionCallsREPLY_ROOM.line.Goals as goal
+use Rattle.margin.proofs.session.SessionCallsWithRoomREPLY_ROOM.line.Goals as goal
 
 pub returns-in-Store-clause-answers : goal.returns-in-Store-clause-answers
 returns-in-Store-clause-answers c =

@@ -1,15 +1,15 @@
--- `serve_input` ends; what it read and what it wrote are an input and what the program prints over it. Assumes nothing.
+-- `serve_input_with_room` ends; what it read and what it wrote are an input and what the program prints over it. Assumes nothing.
 use mathlib.Core.Path.{refl, sym, ◌∙◌}
 use native.Mathlib.Omega.{arith}
 use lib.ListN.{take}
 use Rattle.blocks.specs.Left.{last_of, bytes_left}
 use Rattle.calls.proofs.Traced.{traced_fresh, traced-due, turns-read, took_all, took_less, turn-goes, turn-due, turn-finished, turn-reads}
-use Rattle.calls.proofs.input.serve_input.Goals as goal
+use Rattle.calls.proofs.input.serve_input_with_room.Goals as goal
 
 pub loop-init : goal.loop-init
 loop-init g c =
-    let p = g.C.Calls in
-    let q = g.met.C.Calls in
+    let p = g.C.CallsWithRoom in
+    let q = g.met.C.CallsWithRoom in
     rw (c.none-left.ensures, c.fresh-calls.ensures) (
       c.large_buffer-input.ensures,
       c.filled-out.ensures,
@@ -22,8 +22,8 @@ loop-init g c =
 
 pub returns-then-is_last : goal.returns-then-is_last
 returns-then-is_last g c =
-    let p = g.C.Calls in
-    let q = g.met.C.Calls in
+    let p = g.C.CallsWithRoom in
+    let q = g.met.C.CallsWithRoom in
     let l = c.loop in
     let n = l.invariant.0 in
     let w = l.invariant.3 in
@@ -32,8 +32,8 @@ returns-then-is_last g c =
 
 pub loop-preserved-then-last-end : goal.loop-preserved-then-last-end
 loop-preserved-then-last-end g c =
-    let p = g.C.Calls in
-    let q = g.met.C.Calls in
+    let p = g.C.CallsWithRoom in
+    let q = g.met.C.CallsWithRoom in
     let l = c.loop in
     let n = l.invariant.0 in
     let w = l.invariant.3 in
@@ -47,8 +47,8 @@ loop-preserved-then-last-end g c =
 
 pub returns-then-not-all : goal.returns-then-not-all
 returns-then-not-all g c =
-    let p = g.C.Calls in
-    let q = g.met.C.Calls in
+    let p = g.C.CallsWithRoom in
+    let q = g.met.C.CallsWithRoom in
     let l = c.loop in
     let n = l.invariant.0 in
     let w = l.invariant.3 in
@@ -63,8 +63,8 @@ returns-then-not-all g c =
 
 pub loop-preserved : goal.loop-preserved
 loop-preserved g c =
-    let p = g.C.Calls in
-    let q = g.met.C.Calls in
+    let p = g.C.CallsWithRoom in
+    let q = g.met.C.CallsWithRoom in
     let l = c.loop in
     let n = l.invariant.0 in
     let w = l.invariant.3 in
@@ -78,8 +78,8 @@ loop-preserved g c =
 
 pub returns : goal.returns
 returns g c =
-    let p = g.C.Calls in
-    let q = g.met.C.Calls in
+    let p = g.C.CallsWithRoom in
+    let q = g.met.C.CallsWithRoom in
     let l = c.loop in
     let t = c.loop-test.false in
     let e = l.invariant.6 in
@@ -90,4 +90,4 @@ returns g c =
     )
 
 pub filled-out-requires : goal.filled-out-requires
-filled-out-requires g c = let h = g.met.C.Calls.wide.1 in omega (arith, h)
+filled-out-requires g c = let h = g.met.C.CallsWithRoom.wide.1 in omega (arith, h)

@@ -3,7 +3,7 @@ use mathlib.Core.Path.{◌≡◌, sym, ap, ◌∙◌}
 use Rattle.std.specs.Prelude.{Some}
 use Rattle.exitlog.specs.Entry.{read_entry}
 use Rattle.exitlog.specs.declared.entry.Entry.TheVariants.{Verdict, Signal, TooWide}
-use Rattle.exits.proofs.session.SessionCallsCALL_ROOM.line.Goals as goal
+use Rattle.exits.proofs.session.SessionCallsWithRoomCALL_ROOM.line.Goals as goal
 
 pub returns-in-Verdict-clause-answers : goal.returns-in-Verdict-clause-answers
 returns-in-Verdict-clause-answers c =
